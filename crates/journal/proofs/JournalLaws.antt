@@ -42,7 +42,8 @@ use Rattle.journal.proofs.Moves.{forgotten_are_sent, rows_are_sent}
 -- ---- a station's rows
 
 pub stations_rows_are_sent : StationsRowsAreSent
-stations_rows_are_sent b ms = books_keep rows_are_sent forgotten_are_sent ms (opening_station b)
+stations_rows_are_sent g b ms =
+    books_keep rows_are_sent forgotten_are_sent ms (opening_station g b)
 
 -- a legal history is made again of its requests
 pub histories_are_made_again : HistoriesAreMadeAgain

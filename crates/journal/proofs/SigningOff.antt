@@ -28,6 +28,7 @@ use Rattle.site_book.proofs.Growing.{goes_on}
 use Rattle.kept_history.specs.KeptRows.{kept_rows}
 use Rattle.std.specs.List.{AllByRecursion}
 use Rattle.site_book.proofs.SignedTills.{tills_row}
+use Rattle.station.specs.Gates.{open_gates}
 use Rattle.station.specs.Runs.{opening_station}
 use Rattle.station.specs.Sessions.{without_till}
 use Rattle.station.proofs.Leaving.{signed_off}
@@ -168,7 +169,7 @@ allowed_off recovered b off =
 -- a station that begins with it, each row of which is stored
 pub resumes : (site : List ℕ) (recovered b : Book) (last clock : Option (List ℕ)) (unpaid : Kept)
     (file : Option DiskFile) (j : JournalState) (s : StoredState)
-    → s ≡ record { station = opening_station b; unpaid = unpaid; journal = Some j }
+    → s ≡ record { station = opening_station open_gates b; unpaid = unpaid; journal = Some j }
     → b ≡ all_off recovered → HasNobodyOn b → j.stored ≡ length b.rows → j.site ≡ site
     → j.clock ≡ clock → OfFiles (GrowsByRound last clock (kept_behind (length recovered.rows) b.rows)) file j.file
     → OfFiles Keeps file j.file → Resumes site recovered last clock file s

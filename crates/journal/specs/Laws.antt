@@ -7,6 +7,7 @@ use Rattle.written_site.specs.SiteRun.{IsLegal, events_of}
 use Rattle.written_site.specs.SiteState.{opening}
 use Rattle.kept_history.specs.KeptRows.{kept_rows}
 use Rattle.site_book.specs.Book.{Book}
+use Rattle.station.specs.Gates.{GateState}
 use Rattle.station.specs.Runs.{Move, after, opening_station}
 use Rattle.chapters.specs.ChapterReading.{HistoryRead, nothing_read, read_from}
 use Rattle.chapters.specs.History.{rows_asked}
@@ -78,5 +79,6 @@ HistoriesAreMadeAgain = (config : Configured) (rows : List Row) → IsLegal (ope
 
 -- Whatever moves come, each row of a station is one that its actor sends.
 abbrev pub StationsRowsAreSent : Type 0
-StationsRowsAreSent = (b : Book) (ms : List Move) → AllByRecursion IsSent b.rows
-    → AllByRecursion IsSent (after ms (opening_station b)).book.rows
+StationsRowsAreSent = (g : GateState) (b : Book) (ms : List Move)
+    → AllByRecursion IsSent b.rows
+    → AllByRecursion IsSent (after ms (opening_station g b)).book.rows

@@ -4,6 +4,7 @@ use Rattle.site_base.specs.declared.limits.TheConstants.{TILLS}
 use Rattle.site_base.specs.Configured.{Configured}
 use Rattle.written_site.specs.SiteState.{is_signed_on}
 use Rattle.site_book.specs.Book.{Book, site_of_book}
+use Rattle.station.specs.Gates.{open_gates}
 use Rattle.station.specs.Runs.{opening_station}
 use Rattle.station.specs.Sessions.{without_till}
 use Rattle.journal.specs.Disks.{DiskFile, Keeps, OfFile, OfFiles}
@@ -29,7 +30,7 @@ all_off b = tills_off TILLS b
 -- time behind the last one
 pub record Resumes (site : List ℕ) (recovered : Book) (last now : Option (List ℕ))
     (file : Option DiskFile) (s : StoredState) : Type 0 where
-  pub alone : s.station ≡ opening_station s.station.book
+  pub alone : s.station ≡ opening_station open_gates s.station.book
   pub rows : s.station.book ≡ all_off recovered
   pub off : HasNobodyOn s.station.book
   pub stored : is_all_stored s ≡ true

@@ -1,6 +1,7 @@
 //! A station that goes on where its journal ended.
 
 ghost use Rattle.std.specs.Prelude.{◌≡◌, ◌≤◌, IfErr, IfOk, Some, false, string_bytes};
+ghost use Rattle.station.specs.Gates.{open_gates};
 ghost use Rattle.station.specs.Sessions.{without_till};
 ghost use Rattle.station.specs.Runs.{opening_station};
 ghost use Rattle.journal.specs.declared.memory.TheConstants.{LEAST_ROWS};
@@ -59,7 +60,7 @@ pub fn open_journal<D: Disk>(
 ) -> Result<Opened<D>, Unopened<D>>
     requires { LEAST_ROWS ≤ config.now.rows }
     ensures alone { IfOk result
-        (λ o. o.station.station ≡ opening_station o.station.station.book) }
+        (λ o. o.station.station ≡ opening_station open_gates o.station.station.book) }
     ensures off { IfOk result (λ o. HasNobodyOn o.station.station.book) }
     ensures opened { IfOk result (λ o.
         Reopens (string_bytes site) config.now clock (D.file disk) o.rows o.station) }

@@ -1,11 +1,14 @@
 //! A station with its journal.
 
 ghost use Rattle.std.specs.Prelude.{◌≡◌, ◌==◌, ◌≤◌, ℕ, IfNone, IfOk, IfSome, None, OnErr, OnOk};
-ghost use Rattle.std.specs.Prelude.{Some, false, is_some, length, not, true};
+ghost use Rattle.std.specs.Prelude.{Bool, Some, false, is_some, length, not, true};
 ghost use Rattle.station.specs.declared.sizes.TheConstants.{PEERS};
 ghost use Rattle.station.specs.Peers.{peer_at};
-ghost use Rattle.station.specs.Moves.{with_end, with_octets, with_taken, without_peer};
-ghost use Rattle.station.specs.Reads.{Arrives, IsNextOwed, NoneIsOwed, end_at, is_read_at};
+ghost use Rattle.station.specs.Gates.{count_at, open_gates};
+ghost use Rattle.station.specs.Moves.{end_release, lose, with_end, with_octets, with_taken};
+ghost use Rattle.station.specs.Moves.{without_peer};
+ghost use Rattle.station.specs.Reads.{Arrives, ArrivesAt, IsNextOwed, NoneIsOwed, end_at};
+ghost use Rattle.station.specs.Reads.{is_read_at};
 ghost use Rattle.station.specs.Reads.{node_at, owed_at};
 ghost use Rattle.station.specs.Runs.{opening_station};
 ghost use Rattle.station.specs.Sessions.{Grants};
@@ -25,10 +28,10 @@ ghost use Rattle.journal.specs.Stored.{told_at, with_station};
 use crate::disk::{Disk, DiskFault};
 use crate::journal::{ChapterEnd, Journal};
 use crate::memory::most_in_memory;
-use site_base::{NoMemory, SiteConfig};
+use site_base::{FpNo, NoMemory, SiteConfig};
 use site_book::{NamedSale, SiteBook, UnpaidSales};
 use stamps::Stamp;
-use station::{PeerEnd, Station};
+use station::{Gates, PeerEnd, Station};
 use std::alloc::Global;
 use std::marker::Model;
 use std::time::Instant;
@@ -59,14 +62,15 @@ impl<D: Disk> StoredStation<D> {
     /// A station on this site without a journal: whatever it owes may be told.
     pub fn open_without(alloc: Global, config: &SiteConfig) -> Result<StoredStation<D>, NoMemory>
         requires { LEAST_ROWS ≤ config.now.rows }
-        ensures station { IfOk result (λ s. s.station ≡ opening_station (empty_book config.now)) }
+        ensures station { IfOk result (λ s. s.station
+            ≡ opening_station open_gates (empty_book config.now)) }
         ensures off { IfOk result (λ s. HasNobodyOn s.station.book) }
         ensures journal { IfOk result (λ s. s.journal ≡ None) }
     {
         let book = SiteBook::try_open(alloc, config)?;
         Ok(StoredStation {
             alloc,
-            station: Station::new(alloc, book),
+            station: Station::new(alloc, Gates::new(alloc), book),
             unpaid: UnpaidSales::new(alloc),
             journal: None,
         })
@@ -86,14 +90,14 @@ impl<D: Disk> StoredStation<D> {
         requires behind { book.forgotten ≤ journal.stored }
         requires enough { LEAST_ROWS ≤ book.config.rows }
         ensures { result ≡ record {
-          station = opening_station book;
+          station = opening_station open_gates book;
           unpaid = unpaid;
           journal = Some journal;
         } }
     {
         StoredStation {
             alloc,
-            station: Station::new(alloc, book),
+            station: Station::new(alloc, Gates::new(alloc), book),
             unpaid,
             journal: Some(journal),
         }
@@ -133,7 +137,21 @@ impl<D: Disk> StoredStation<D> {
         self.unpaid.as_slice()
     }
 
-    /// The book of the station. No key above 1,023 is given, and its configuration allows 1,024
+    /// Who may speak where, as `Station::set_gates` says.
+    pub fn set_gates(&mut self, gates: Gates)
+        ensures { self.new ≡ with_station (record self.old.station { gates = gates }) self.old }
+    {
+        self.station.set_gates(gates);
+    }
+
+    /// The doors and the house till.
+    pub fn gates(&self) -> &Gates
+        ensures { result.now ≡ self.now.station.gates }
+    {
+        self.station.gates()
+    }
+
+    /// The book of the station. No key above 1,407 is given, and its configuration allows 1,024
     /// rows or more, by the station's type.
     pub fn book(&self) -> &SiteBook
         ensures book { result.now ≡ self.now.station.book }
@@ -150,6 +168,39 @@ impl<D: Disk> StoredStation<D> {
         ensures journal { self.new.journal ≡ self.old.journal }
     {
         self.station.arrive()
+    }
+
+    /// A peer arrives at a door, as `Station::arrive_at` says.
+    pub fn arrive_at(&mut self, door: usize) -> Result<Option<usize>, NoMemory>
+        ensures ok { IfOk result (λ key. ArrivesAt door key self.old.station self.new.station) }
+        ensures err { OnErr result (self.new.station ≡ self.old.station) }
+        ensures journal { self.new.journal ≡ self.old.journal }
+    {
+        self.station.arrive_at(door)
+    }
+
+    /// How many sessions of a node last.
+    pub fn session_count(&self, node: [u8; 2]) -> usize
+        ensures { result ≡ count_at node self.now.station.peers }
+    {
+        self.station.session_count(node)
+    }
+
+    /// The house till ends the release of a point, as `Station::end_release` says.
+    pub fn end_release(&mut self, p: FpNo)
+        ensures station { (on : Bool) × (off : Bool)
+            × (self.new.station ≡ end_release on off p self.old.station) }
+        ensures journal { self.new.journal ≡ self.old.journal }
+    {
+        self.station.end_release(p);
+    }
+
+    /// The dispenser of a point is gone, as `Station::lose_dispenser` says.
+    pub fn lose_dispenser(&mut self, p: FpNo)
+        ensures station { (memory : Bool) × (self.new.station ≡ lose memory p self.old.station) }
+        ensures journal { self.new.journal ≡ self.old.journal }
+    {
+        self.station.lose_dispenser(p);
     }
 
     /// Is the peer of this key read from?
