@@ -6,6 +6,6 @@ mod accepting;
 mod call;
 mod sizes;
 
-pub use accepting::{Caller, accept};
+pub use accepting::{Caller, accept, accept_at_door};
 pub use call::{Call, both_ways};
 pub use sizes::{ACCEPTS_A_TURN, CALLS_A_TURN, PIECE_OCTETS};

@@ -1,10 +1,14 @@
 -- Moves of a station, one after another.
 use Rattle.std.proofs.Common.{◌≡◌, ℕ, List, [], ◌∷◌, ◌++◌, Option, Some, None, refl, sym, ap, ◌∙◌}
-use Rattle.std.proofs.Common.{arith, inl, inr, subst, true}
-use Rattle.station.specs.Moves.{StationState, with_end, with_taken}
+use Rattle.std.proofs.Common.{◌+◌, Bool, arith, inl, inr, subst, true}
+use Rattle.std.specs.Prelude.{slice_get}
+use Rattle.station.specs.declared.sizes.TheConstants.{FREE_PLACES}
+use Rattle.station.specs.Moves.{StationState, end_release, lose, with_end, with_taken}
 use Rattle.station.specs.Moves.{without_peer}
-use Rattle.station.specs.Reads.{Arrives as GetsKey, is_read_at}
-use Rattle.station.specs.Runs.{Arrives, Finishes, Forgets, Leaves, Move, Says, Takes, after}
+use Rattle.station.specs.Reads.{Arrives as GetsKey, ArrivesAmong, ArrivesAt, arrives_at}
+use Rattle.station.specs.Reads.{first_place, is_read_at}
+use Rattle.station.specs.Runs.{Arrives, EndsRelease, Finishes, Forgets, Leaves, Loses, Move, Says}
+use Rattle.station.specs.Runs.{Takes, after}
 use Rattle.station.specs.Runs.{after_move, arrive}
 use Rattle.journal.specs.Memory.{HasRoomToHear, IsSameOrForgets}
 use Rattle.journal.specs.Stored.{StoredState, with_station}
@@ -55,7 +59,7 @@ pub reaches_left : (k : ℕ) (s t : StationState) → t ≡ without_peer k s →
 reaches_left k s t left = reaches_by (Leaves k) s t tt left
 
 -- nothing was done, or rows were forgotten
-reaches_room : (s t : StationState) → IsSameOrForgets s t → Reaches s t
+pub reaches_room : (s t : StationState) → IsSameOrForgets s t → Reaches s t
 reaches_room s t (inl same) = reaches_same s t same
 reaches_room s t (inr forgets) = reaches_by Forgets s t tt forgets
 
@@ -66,10 +70,33 @@ still_read k s t (inl same) read = ap (λ (x : StationState). is_read_at x k) sa
 still_read k s t (inr forgets) read = ap (λ (x : StationState). is_read_at x k) forgets ∙ read
 
 -- a peer came, if there was a key for it
+reaches_among : (first last : ℕ) (door : Option (List ℕ)) (key : Option ℕ) (s t : StationState)
+    → ArrivesAmong first last door key s t → Reaches s t
+reaches_among first last door None s t gets = reaches_same s t gets.0
+reaches_among first last door (Some k) s t gets =
+    reaches_by (Arrives k door) s t tt (gets.3 ∙ ap (λ x. arrive k door x s) (sym gets.2))
+
 pub reaches_arrival : (key : Option ℕ) (s t : StationState) → GetsKey key s t → Reaches s t
-reaches_arrival None s t gets = reaches_same s t gets.0
-reaches_arrival (Some k) s t gets =
-    reaches_by (Arrives k) s t tt (gets.2 ∙ ap (λ x. arrive k x s) (sym gets.1))
+reaches_arrival key s t gets = reaches_among 0 FREE_PLACES None key s t gets
+
+-- .. at a door
+pub reaches_door : (door : ℕ) (key : Option ℕ) (s t : StationState) → ArrivesAt door key s t
+    → Reaches s t
+reaches_door door key s t = by_node (slice_get s.gates.doors door)
+  where
+    by_node : (node : Option (List ℕ)) → arrives_at node door key s t → Reaches s t
+    by_node None gets = reaches_same s t gets.1
+    by_node (Some node) gets =
+        reaches_among (first_place door) (first_place (door + 1)) (Some node) key s t gets
+
+-- the station itself acts
+pub reaches_released : (on off : Bool) (p : ℕ) (s t : StationState) → t ≡ end_release on off p s
+    → Reaches s t
+reaches_released on off p s t is = reaches_by (EndsRelease on off p) s t tt is
+
+pub reaches_lost : (memory : Bool) (p : ℕ) (s t : StationState) → t ≡ lose memory p s
+    → Reaches s t
+reaches_lost memory p s t is = reaches_by (Loses memory p) s t tt is
 
 -- a call at a connection, where there is room
 reaches_read : (call : Call) (k : ℕ) (left left' : Option (List ℕ)) (s t : StationState)
@@ -122,6 +149,10 @@ pub ruleset moved = (
   reaches_left,
   reaches_end,
   reaches_arrival,
+  reaches_door,
+  reaches_released,
+  reaches_lost,
+  reaches_room,
   reaches_heard_with_room,
   reaches_written,
   reaches_kept,

@@ -5,13 +5,18 @@
 //! connection is exact (`specs/Calls.antt`).
 #![tactic(auto)]
 
+mod allowance;
 mod calls;
 mod change_watch;
 mod connections;
 mod due_list;
 mod link;
 mod naming;
+mod peer_stream;
 mod shift_warning;
 mod sizes;
+mod upkeep;
 
 pub use connections::Connections;
+pub use sizes::HOLD_MILLISECONDS;
+pub use upkeep::Patience;

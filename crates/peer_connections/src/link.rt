@@ -4,18 +4,20 @@ ghost use Rattle.std.specs.Prelude.{◌≡◌, length};
 ghost use Rattle.station.specs.declared.sizes.TheConstants.{HEARD_OCTETS};
 ghost use Rattle.peer_connections.specs.Reaches.{Reaches};
 
+use crate::allowance::Allowance;
 use crate::calls::{read_ignored, read_with_room, write_once};
 use crate::change_watch::ChangeWatch;
+use crate::peer_stream::PeerStream;
 use connection_calls::{CALLS_A_TURN, Call};
 use journal::{Disk, DiskFault, StoredStation};
-use mio::net::TcpStream;
-use std::net::Shutdown;
 use std::time::Instant;
 
 /// A connection, and how far its session has come.
 #[derive(Drop)]
 pub(crate) struct Link {
-    pub(crate) stream: TcpStream,
+    pub(crate) stream: PeerStream,
+    /// When the peer came.
+    pub(crate) came_at: Instant,
     /// When octets came last.
     pub(crate) heard_at: Instant,
     /// When the peer last took octets.
@@ -24,6 +26,10 @@ pub(crate) struct Link {
     pub(crate) closing_since: Option<Instant>,
     /// Reading stopped before the peer had no more.
     pub(crate) is_unread: bool,
+    /// How much of the session may be read.
+    allowance: Allowance,
+    /// It isn't read from for now, since no more of the session may be read yet.
+    pub(crate) is_held_back: bool,
     /// It takes no octets for now.
     pub(crate) is_full: bool,
     /// The peer was told that nothing more will come.
@@ -44,14 +50,17 @@ pub(crate) enum Channel {
 }
 
 impl Link {
-    /// The connection of a peer that has just come.
-    pub(crate) fn new(stream: TcpStream, now: Instant) -> Link {
+    /// The connection of a peer that has just come, and makes so many rows a second at most.
+    pub(crate) fn new(stream: PeerStream, rows_a_second: u64, now: Instant) -> Link {
         Link {
             stream,
+            came_at: now,
             heard_at: now,
             taken_at: now,
             closing_since: None,
             is_unread: false,
+            allowance: Allowance::new(rows_a_second, now),
+            is_held_back: false,
             is_full: false,
             is_shut: false,
             channel: Channel::Open,
@@ -60,9 +69,10 @@ impl Link {
 
     /// Reads from the peer, and has the station hear it: until there is no more for now, the peer
     /// isn't read from, or its turn is over. With `to_wait` it reads on behind a short read, too,
-    /// until the connection waits: the peer sends no more, or has sent urgent data, ahead of which a
-    /// read ends.
-    /// Where the station's book can't be given room for a read, nothing more is read.
+    /// until the connection waits: the peer sends no more, or has sent urgent data, ahead of which
+    /// a read ends.
+    /// Where no more of the session may be read yet, it is held back. Where the station's book
+    /// can't be given room for a read, nothing more is read.
     #[tactic(auto, using(crate::proofs::Reaching::moved))]
     pub(crate) fn hear<D: Disk>(
         &mut self,
@@ -81,10 +91,16 @@ impl Link {
             if !stored.is_read(key) {
                 return Ok(());
             }
-            let size = piece.len();
-            match read_with_room(&mut self.stream, stored, changes, key, piece)? {
+            let size = self.allowance.grant(piece.len(), now);
+            if size == 0 {
+                self.is_held_back = true;
+                return Ok(());
+            }
+            let part = &mut piece[..size];
+            match read_with_room(&mut self.stream, stored, changes, key, part)? {
                 Call::Passed(n) => {
                     self.heard_at = now;
+                    self.allowance.spend(n);
                     if n < size && !to_wait {
                         self.is_unread = false;
                         return Ok(());
@@ -177,7 +193,7 @@ impl Link {
     pub(crate) fn shut(&mut self) {
         if !self.is_shut {
             self.is_shut = true;
-            let _ = self.stream.shutdown(Shutdown::Write);
+            self.stream.shut();
         }
     }
 }

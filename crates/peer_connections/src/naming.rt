@@ -15,8 +15,20 @@ pub(crate) struct EndedSession {
 impl fmt::Display for EndedSession {
     /// `session of t1: fault 44: the octets end inside a message`.
     fn fmt<W: fmt::Write>(&self, f: &mut fmt::Formatter<W>) -> fmt::Result {
-        let name = PeerName { node: self.node };
+        let name = PeerName {
+            node: self.speaker(),
+        };
         write!(f, "session of {name}: {}", self.end)
+    }
+}
+
+impl EndedSession {
+    /// The node that it was of, or that it wanted to speak as.
+    fn speaker(&self) -> Option<[u8; 2]> {
+        match self.end {
+            PeerEnd::Barred(node) | PeerEnd::Crowded(node) => Some(node),
+            _ => self.node,
+        }
     }
 }
 

@@ -1,4 +1,5 @@
-//! The station over sockets: connections on 127.0.0.1, up to 1,024 at once, on one thread.
+//! The station over sockets: connections on 127.0.0.1, up to 1,024 at once, and those of doors, on
+//! one thread.
 //!
 //! `StationServer` waits until connections are ready (`mio`, edge-triggered). In a round it has the
 //! station hear what the ready peers sent, and then it sends what is owed, to peers that are told
@@ -7,9 +8,12 @@
 //! each law of `station` holds of what it serves. Readiness and the clock are the system's.
 #![tactic(auto)]
 
+mod doors;
 mod fault;
+mod round_clock;
 mod server;
 mod sizes;
 
+pub use doors::Doors;
 pub use fault::ServerFault;
 pub use server::StationServer;

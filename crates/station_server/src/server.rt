@@ -5,15 +5,17 @@ ghost use Rattle.station.specs.Reads.{HasNoPeer};
 ghost use Rattle.journal.specs.Stored.{is_all_stored};
 ghost use Rattle.peer_connections.specs.Reaches.{Reaches};
 
+use crate::doors::Doors;
 use crate::fault::ServerFault;
-use crate::sizes::{EVENTS_A_ROUND, ROUNDS_BEFORE_A_SWEEP, STALL_SECONDS, SWEEP_SECONDS};
+use crate::round_clock::RoundClock;
+use crate::sizes::{EVENTS_A_ROUND, ROUNDS_BEFORE_A_SWEEP, SWEEP_SECONDS};
 use connection_calls::{ACCEPTS_A_TURN, Caller, accept};
 use journal::{Disk, DiskFault};
 use mio::event::Event;
-use mio::net::TcpListener;
+use mio::net::{TcpListener, TcpStream};
 use mio::{Events, Interest, Poll, Token, Waker};
 use page_connections::Pages;
-use peer_connections::Connections;
+use peer_connections::{Connections, HOLD_MILLISECONDS};
 use stamps::StampClock;
 use station::PEERS;
 use std::alloc::Global;
@@ -31,14 +33,16 @@ const WAKER: Token = Token(usize::MAX - 1);
 /// What a new connection of the page is reported under.
 const PAGE_LISTENER: Token = Token(usize::MAX - 2);
 
-/// A listener on 127.0.0.1, one of the page if there is one, and what waits for their connections.
+/// A listener on 127.0.0.1, if there is one, those of the doors, one of the page if there is one,
+/// and what waits for their connections.
 #[derive(Drop)]
 pub struct StationServer {
     alloc: Global,
     poll: Poll,
     events: Events,
-    listener: TcpListener,
-    port: u16,
+    listener: Option<TcpListener>,
+    port: Option<u16>,
+    doors: Doors,
     pages: Option<Pages>,
     page_port: Option<u16>,
     callers: Callers,
@@ -47,7 +51,7 @@ pub struct StationServer {
     /// The day's end has come.
     has_ended: bool,
     swept_at: Instant,
-    time: Instant,
+    rounds: RoundClock,
     clock: StampClock,
 }
 
@@ -63,19 +67,20 @@ enum Callers {
 }
 
 impl StationServer {
-    /// Listens on this port of 127.0.0.1, on a free one where it is 0. `NoConnection` where that
-    /// can't be.
+    /// Listens at these doors, and on this port of 127.0.0.1, if there is one, on a free one where
+    /// it is 0. `NoConnection` where that can't be.
     pub fn bind<N: Net, C: Clock>(
         net: &N,
         clock: &C,
         alloc: Global,
-        port: u16,
+        port: Option<u16>,
+        doors: Doors,
     ) -> Result<StationServer, ServerFault> {
         let events = match Events::with_capacity(alloc, EVENTS_A_ROUND) {
             Ok(events) => events,
             Err(_) => return Err(ServerFault::NoMemory),
         };
-        match listen(net, clock, alloc, events, port) {
+        match listen(net, clock, alloc, events, port, doors) {
             Ok(server) => Ok(server),
             Err(_) => Err(ServerFault::NoConnection),
         }
@@ -105,8 +110,8 @@ impl StationServer {
     /// Listens no more.
     pub fn close(self) {}
 
-    /// The port on which it listens.
-    pub fn port(&self) -> u16
+    /// The port on which it listens, if it does on one.
+    pub fn port(&self) -> Option<u16>
         ensures { result ≡ self.now.port }
     {
         self.port
@@ -142,13 +147,14 @@ impl StationServer {
         ensures stored { OnOk result (is_all_stored connections.new.stored ≡ true) }
     {
         let served = self.serve_rounds(threads, rt, connections, idle);
-        let ended = connections.end_all(rt, self.time);
+        let ended = connections.end_all(rt, self.rounds.waited());
         served?;
         ended?;
         Ok(())
     }
 
-    /// Serves connections until the day's end.
+    /// Serves connections until the day's end. No release of the day before stands then, if there is
+    /// a house till.
     #[tactic(auto, using(crate::proofs::Rounds::moved))]
     fn serve_rounds<T: Wait, R: Clock + Eprint, D: Disk>(
         &mut self,
@@ -159,18 +165,17 @@ impl StationServer {
     ) -> Result<(), ServerFault>
         ensures { Reaches connections.old.stored.station connections.new.stored.station }
     {
+        connections.end_releases()?;
         for _ in threads.forever() {
             let timeout = self.poll_timeout(connections, idle);
             self.hear_round(rt, connections, timeout)?;
-            self.hear_before_sweep(rt, connections, idle)?;
+            self.hear_before_sweep(rt, connections)?;
             if self.has_ended {
                 return Ok(());
             }
             self.send_all(rt, connections, idle)?;
             self.serve_page(connections);
-            if self.callers == Callers::Waiting {
-                self.accept_all(rt, connections);
-            }
+            self.accept_waiting(rt, connections);
         }
         Ok(())
     }
@@ -187,27 +192,27 @@ impl StationServer {
     {
         match self.poll.poll(&mut self.events, timeout) {
             Ok(()) => {
-                self.look_at_clock(rt);
+                self.rounds.begin_round(rt);
                 let clock = self.clock.read(self.alloc, rt);
-                connections.begin_round(rt, clock, self.time);
+                connections.begin_round(rt, clock, self.rounds.now());
                 self.take_turns(connections)
             }
             Err(_) => Err(ServerFault::NoConnection),
         }
     }
 
-    /// Where idle sessions are about to be ended, first of all whoever has sent something is heard:
-    /// the wait may have been interrupted, or more are ready than a round looks at.
+    /// Where peers are about to be left that were waited for too long, first of all whoever is
+    /// ready has its turn: the wait may have been interrupted, or more are ready than a round looks
+    /// at.
     #[tactic(auto, using(crate::proofs::Rounds::moved))]
     fn hear_before_sweep<R: Clock + Eprint, D: Disk>(
         &mut self,
         rt: &R,
         connections: &mut Connections<D>,
-        idle: Option<u64>,
     ) -> Result<(), ServerFault>
         ensures { Reaches connections.old.stored.station connections.new.stored.station }
     {
-        if idle.is_none() || !self.is_sweep_due() {
+        if !self.is_sweep_due() {
             return Ok(());
         }
         for _ in 0..ROUNDS_BEFORE_A_SWEEP {
@@ -229,7 +234,7 @@ impl StationServer {
             return;
         };
         let registry = self.poll.registry();
-        if pages.accept_waiting(registry, self.time) {
+        if pages.accept_waiting(registry, self.rounds.waited()) {
             match connections.read_unpaid() {
                 Ok(()) => pages.answer_due(
                     registry,
@@ -238,37 +243,34 @@ impl StationServer {
                     connections.count(),
                     connections.open_since(),
                     connections.last_seal(),
-                    self.time,
+                    self.rounds.waited(),
                 ),
                 Err(_) => pages.close_due(),
             }
         }
-        pages.close_late(self.time);
+        pages.close_late(self.rounds.waited());
     }
 
-    /// How long it waits for the next round: as long as it takes, or until the next sweep.
+    /// How long it waits for the next round: as long as it takes, until the next sweep, or until
+    /// sessions that were held back are read on.
     fn poll_timeout<D: Disk>(
         &self,
         connections: &Connections<D>,
         idle: Option<u64>,
     ) -> Option<Duration> {
+        if connections.has_held_back() {
+            return Some(Duration::from_millis(HOLD_MILLISECONDS));
+        }
         let is_page_busy = self.pages.as_ref().is_some_and(|pages| pages.is_busy());
         if self.callers == Callers::Refused
-            || connections.has_closing()
-            || connections.may_be_stuck()
+            || connections.may_wait()
+            || connections.keeps_up()
             || idle.is_some()
             || is_page_busy
         {
             return Some(Duration::from_secs(SWEEP_SECONDS));
         }
         None
-    }
-
-    /// What time it is; where the clock doesn't tell, none has passed.
-    fn look_at_clock<R: Clock>(&mut self, rt: &R) {
-        if let Ok(now) = Instant::now(rt) {
-            self.time = now;
-        }
     }
 
     /// Each connection that is ready has its turn. One of the page has it behind those.
@@ -280,10 +282,15 @@ impl StationServer {
             match event.token() {
                 WAKER => self.has_ended = true,
                 LISTENER => self.callers = Callers::Waiting,
-                Token(key) if key < PEERS => take_turn(connections, event, key, self.time)?,
+                Token(key) if key < PEERS => take_turn(
+                    connections,
+                    event,
+                    key,
+                    self.rounds.waited(),
+                )?,
                 token => {
-                    if let Some(pages) = &mut self.pages {
-                        note_page(pages, token);
+                    if !self.doors.note_callers(token) {
+                        note_page(&mut self.pages, token);
                     }
                 }
             }
@@ -291,17 +298,79 @@ impl StationServer {
         Ok(())
     }
 
-    /// Accepts the connections that wait. Where that fails it is told, once until all that wait are
-    /// accepted, and tried again.
+    /// Accepts the connections that wait, over TCP and at the doors.
+    #[tactic(auto, using(crate::proofs::Rounds::moved))]
+    fn accept_waiting<R: Eprint, D: Disk>(&mut self, rt: &R, connections: &mut Connections<D>)
+        ensures { Reaches connections.old.stored.station connections.new.stored.station }
+    {
+        self.accept_on_port(rt, connections);
+        self.accept_at_doors(rt, connections);
+    }
+
+    /// Accepts the connections that wait over TCP, if some do.
+    #[tactic(auto, using(crate::proofs::Rounds::moved))]
+    fn accept_on_port<R: Eprint, D: Disk>(&mut self, rt: &R, connections: &mut Connections<D>)
+        ensures { Reaches connections.old.stored.station connections.new.stored.station }
+    {
+        if self.callers == Callers::Waiting {
+            self.accept_all(rt, connections);
+        }
+    }
+
+    /// Accepts the connections that wait at the doors, as `accept_all` does, unless accepting has
+    /// failed.
+    #[tactic(auto, using(crate::proofs::Rounds::moved))]
+    fn accept_at_doors<R: Eprint, D: Disk>(&mut self, rt: &R, connections: &mut Connections<D>)
+        ensures { Reaches connections.old.stored.station connections.new.stored.station }
+    {
+        if self.callers == Callers::Refused {
+            return;
+        }
+        for place in 0..self.doors.len() {
+            if self.doors.has_callers(place) {
+                self.accept_at_door(rt, connections, place);
+            }
+        }
+    }
+
+    /// Accepts the connections that wait at the door of this place.
+    #[tactic(auto, using(crate::proofs::Rounds::moved))]
+    fn accept_at_door<R: Eprint, D: Disk>(
+        &mut self,
+        rt: &R,
+        connections: &mut Connections<D>,
+        place: usize,
+    )
+        ensures { Reaches connections.old.stored.station connections.new.stored.station }
+    {
+        for _ in 0..ACCEPTS_A_TURN {
+            match self.doors.accept(place) {
+                Caller::Came(stream) => {
+                    let registry = self.poll.registry();
+                    connections.welcome_at(registry, rt, place, stream, self.rounds.waited());
+                }
+                Caller::Gone => {}
+                Caller::None => return,
+                Caller::Failed(error) => {
+                    self.tell_refused(rt, &error);
+                    return;
+                }
+            }
+        }
+        self.doors.watch_again(&self.poll, place);
+    }
+
+    /// Accepts the connections that wait over TCP. Where that fails it is told, once until all that
+    /// wait are accepted, and tried again.
     #[tactic(auto, using(crate::proofs::Rounds::moved))]
     fn accept_all<R: Eprint, D: Disk>(&mut self, rt: &R, connections: &mut Connections<D>)
         ensures { Reaches connections.old.stored.station connections.new.stored.station }
     {
         self.callers = Callers::None;
         for _ in 0..ACCEPTS_A_TURN {
-            match accept(&self.listener) {
+            match accept_at(&self.listener) {
                 Caller::Came(stream) => {
-                    connections.welcome(self.poll.registry(), rt, stream, self.time);
+                    connections.welcome(self.poll.registry(), rt, stream, self.rounds.waited());
                 }
                 Caller::Gone => {}
                 Caller::None => {
@@ -314,8 +383,10 @@ impl StationServer {
                 }
             }
         }
-        let registry = self.poll.registry();
-        let _ = registry.reregister(&mut self.listener, LISTENER, Interest::READABLE);
+        if let Some(listener) = &mut self.listener {
+            let registry = self.poll.registry();
+            let _ = registry.reregister(listener, LISTENER, Interest::READABLE);
+        }
     }
 
     /// Accepting failed so: it is told, where it wasn't yet.
@@ -340,9 +411,12 @@ impl StationServer {
         ensures stored { OnOk result (is_all_stored connections.new.stored ≡ true) }
     {
         connections.make_owed_due();
-        connections.send_due(self.poll.registry(), rt, self.time)?;
+        if self.is_sweep_due() {
+            connections.make_full_due();
+        }
+        connections.send_due(self.poll.registry(), rt, self.rounds.waited())?;
         self.sweep_if_due(rt, connections, idle)?;
-        self.pass_over_stall(rt, connections, idle);
+        connections.read_on(self.poll.registry(), self.rounds.waited());
         Ok(())
     }
 
@@ -361,9 +435,9 @@ impl StationServer {
         if !self.is_sweep_due() {
             return Ok(());
         }
-        self.swept_at = self.time;
+        self.swept_at = self.rounds.waited();
         self.accept_again(rt, connections);
-        connections.sweep(self.poll.registry(), rt, idle, self.time)?;
+        connections.sweep(self.poll.registry(), rt, idle, self.rounds.waited())?;
         Ok(())
     }
 
@@ -374,31 +448,14 @@ impl StationServer {
     {
         if self.callers == Callers::Refused {
             self.accept_all(rt, connections);
+            self.accept_at_doors(rt, connections);
         }
     }
 
     /// Is it time to sweep?
     fn is_sweep_due(&self) -> bool {
-        self.time.duration_since(self.swept_at).as_secs() >= SWEEP_SECONDS
-    }
-
-    /// Where storing took so long that peers seem silent since, they aren't.
-    fn pass_over_stall<R: Clock, D: Disk>(
-        &mut self,
-        rt: &R,
-        connections: &mut Connections<D>,
-        idle: Option<u64>,
-    )
-        ensures { connections.new.stored ≡ connections.old.stored }
-    {
-        if idle.is_none() && !connections.may_be_stuck() {
-            return;
-        }
-        let begun = self.time;
-        self.look_at_clock(rt);
-        if self.time.duration_since(begun).as_secs() >= STALL_SECONDS {
-            connections.restart_silence(self.time);
-        }
+        let passed = self.rounds.waited().duration_since(self.swept_at);
+        passed.as_secs() >= SWEEP_SECONDS
     }
 }
 
@@ -424,10 +481,19 @@ fn take_turn<D: Disk>(
 }
 
 /// Who looks at the page is ready, or waits to be accepted.
-fn note_page(pages: &mut Pages, token: Token) {
-    match token {
-        PAGE_LISTENER => pages.note_callers(),
-        Token(key) => pages.make_due(key),
+fn note_page(pages: &mut Option<Pages>, token: Token) {
+    match (pages, token) {
+        (None, _) => {}
+        (Some(pages), PAGE_LISTENER) => pages.note_callers(),
+        (Some(pages), Token(key)) => pages.make_due(key),
+    }
+}
+
+/// Accepts one connection that waits at this listener, if there is one.
+fn accept_at(listener: &Option<TcpListener>) -> Caller<TcpStream> {
+    match listener {
+        None => Caller::None,
+        Some(listener) => accept(listener),
     }
 }
 
@@ -458,16 +524,34 @@ fn listen_for_page<N: Net, R: RandomSource>(
     Ok((listener, port, keys))
 }
 
-/// A server whose listener is watched.
+/// The listener for peers on this port, if there is one, and its port.
+fn listen_for_peers<N: Net>(
+    net: &N,
+    poll: &Poll,
+    port: Option<u16>,
+) -> io::Result<(Option<TcpListener>, Option<u16>)> {
+    match port {
+        None => Ok((None, None)),
+        Some(port) => {
+            let (listener, port) = watch_port(net, poll, port, LISTENER)?;
+            Ok((Some(listener), Some(port)))
+        }
+    }
+}
+
+/// A server whose listeners are watched.
 fn listen<N: Net, C: Clock>(
     net: &N,
     clock: &C,
     alloc: Global,
     events: Events,
-    port: u16,
+    port: Option<u16>,
+    doors: Doors,
 ) -> io::Result<StationServer> {
+    let mut doors = doors;
     let poll = Poll::new(net)?;
-    let (listener, port) = watch_port(net, &poll, port, LISTENER)?;
+    let (listener, port) = listen_for_peers(net, &poll, port)?;
+    doors.watch(&poll)?;
     let now = Instant::now(clock)?;
     Ok(StationServer {
         alloc,
@@ -475,13 +559,14 @@ fn listen<N: Net, C: Clock>(
         events,
         listener,
         port,
+        doors,
         pages: None,
         page_port: None,
         callers: Callers::None,
         has_told: false,
         has_ended: false,
         swept_at: now,
-        time: now,
+        rounds: RoundClock::new(now),
         clock: StampClock::new(),
     })
 }

@@ -7,8 +7,9 @@ pub const EVENTS_A_ROUND: usize = 256;
 /// whose session is idle, or doesn't close.
 pub const SWEEP_SECONDS: u64 = 1;
 
-/// Where storing a round's rows took so many seconds, peers weren't silent in them.
-pub const STALL_SECONDS: u64 = 1;
+/// By a round, however long it takes, the time by which peers are waited for goes on so many
+/// seconds at most.
+pub const ROUND_SECONDS: u64 = 1;
 
 /// So many rounds are heard, at most, before a sweep.
 pub const ROUNDS_BEFORE_A_SWEEP: usize = 16;

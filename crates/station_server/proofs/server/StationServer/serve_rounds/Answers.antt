@@ -18,17 +18,10 @@ returns-in_err-send_all g c =
     (reaches_then _ _ _ c.hear_before_sweep.ensures c.send_all.ensures.moves))
 
 -- connections were accepted at the round's end
-pub loop-preserved-then-eq : goal.loop-preserved-then-eq
-loop-preserved-then-eq g c =
-    let round = reaches_then _ _ _ c.hear_round.ensures
-    (reaches_then _ _ _ c.hear_before_sweep.ensures c.send_all.ensures.moves) in
-    reaches_then _ _ _ c.loop.invariant
-    (reaches_then _ _ _ round
-    (reaches_then _ _ _ (reaches_same _ _ c.serve_page.ensures) c.accept_all.ensures))
-
 pub loop-preserved : goal.loop-preserved
 loop-preserved g c =
     let round = reaches_then _ _ _ c.hear_round.ensures
     (reaches_then _ _ _ c.hear_before_sweep.ensures c.send_all.ensures.moves) in
     reaches_then _ _ _ c.loop.invariant
-    (reaches_then _ _ _ round (reaches_same _ _ c.serve_page.ensures))
+    (reaches_then _ _ _ round
+    (reaches_then _ _ _ (reaches_same _ _ c.serve_page.ensures) c.accept_waiting.ensures))

@@ -1,0 +1,7 @@
+use Rattle.peer_connections.proofs.Reaching.{reaches_lost}
+use Rattle.peer_connections.proofs.connections.Connections.lose_dispenser.Goals as goal
+
+pub returns : goal.returns
+returns g c =
+    let lost = c.lose_dispenser.ensures.station in
+    reaches_lost lost.0 c.args.p _ _ lost.1

@@ -1,0 +1,5 @@
+use Rattle.peer_connections.specs.Reaches.{Reaches}
+use Rattle.station_server.proofs.server.StationServer.accept_at_door.Given as goal
+
+abbrev pub invariant-loop : goal.invariant-loop
+invariant-loop g l = Reaches l.fn.connections.stored.station l.connections.stored.station
