@@ -15,8 +15,8 @@ pub enum Command<'a> {
     Sales(SalesOptions<'a>),
     /// `serve FILE --port N --workers N --sessions N`
     Serve(ServeOptions<'a>),
-    /// `station [FILE] --port N [--history FOLDER] [--page N] [--idle SECONDS] [--detached]
-    /// [--json]`
+    /// `station [FILE] [--port N] [--doors FOLDER] [--history FOLDER] [--page N] [--idle SECONDS]
+    /// [--rate N] [--detached] [--json]`
     Station(StationOptions<'a>),
     /// `demo FILE SCRIPT [--loopback]`
     Demo(DemoOptions<'a>),
@@ -102,14 +102,24 @@ pub struct ServeOptions<'a> {
 pub struct StationOptions<'a> {
     /// The name of the site file. A history that has begun has its own.
     pub site: Option<&'a str>,
-    /// The port on which it listens for tills and dispensers.
-    pub port: &'a str,
+    /// The port on which it listens for tills and dispensers; without one it has doors alone.
+    pub port: Option<&'a str>,
+    /// The folder of the doors; without one it has none.
+    pub doors: Option<&'a str>,
     /// The folder of the history; without one nothing is stored.
     pub history: Option<&'a str>,
     /// The port of the page; without one there is no page.
     pub page: Option<&'a str>,
     /// After how many silent seconds a session ends; without a number none does.
     pub idle: Option<&'a str>,
+    /// How many rows a session makes in a second at most.
+    pub rate: Option<&'a str>,
+    /// The house till, as which the station itself acts; without one it ends no release.
+    pub house: Option<&'a str>,
+    /// After how many seconds a release that nobody used ends, where there is a house till.
+    pub release_age: Option<&'a str>,
+    /// After how many seconds without a session a dispenser is lost.
+    pub lost: Option<&'a str>,
     /// Runs on when standard input ends.
     pub detached: bool,
     /// Prints the report as one object of JSON.

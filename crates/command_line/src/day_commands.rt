@@ -43,17 +43,21 @@ fn serve<'a>(alloc: Global) -> Result<Command<'a>, AllocError>
 
 fn station<'a>(alloc: Global) -> Result<Command<'a>, AllocError>
     ensures { IfOk result (HasShape (command (codes "station")
-        (new_rule (codes "FILE") ∷ required_rule (codes "port") ∷ option_rule (codes "history")
-        ∷ option_rule (codes "page") ∷ option_rule (codes "idle") ∷ flag_rule (codes "detached")
-        ∷ flag_rule (codes "json") ∷ []))) }
+        (new_rule (codes "FILE") ∷ option_rule (codes "port") ∷ option_rule (codes "doors")
+        ∷ option_rule (codes "history") ∷ option_rule (codes "page") ∷ option_rule (codes "idle")
+        ∷ option_rule (codes "rate") ∷ option_rule (codes "house")
+        ∷ option_rule (codes "release-age") ∷ option_rule (codes "lost")
+        ∷ flag_rule (codes "detached") ∷ flag_rule (codes "json") ∷ []))) }
 {
     let about = "Serves every till and dispenser of a site on 127.0.0.1 until standard input ends, \
                  and prints the report of the day";
     let example = "Example: forecourt station examples/five_points.toml --port 4001 \
                    --history history\n";
     let command = start(alloc, "station", about, example);
+    let doors = "The folder of the doors: a folder for each node, as till-01, in which it speaks";
     let command = add_argument(command, optional_site_file(alloc))?;
-    let command = add_argument(command, required(alloc, "port", "N", ANY_PORT))?;
+    let command = add_argument(command, option(alloc, "port", "N", ANY_PORT))?;
+    let command = add_argument(command, option(alloc, "doors", "FOLDER", doors))?;
     add_station_options(alloc, command)
 }
 
@@ -61,19 +65,42 @@ fn station<'a>(alloc: Global) -> Result<Command<'a>, AllocError>
 fn add_station_options<'a>(alloc: Global, command: Command<'a>) -> Result<Command<'a>, AllocError>
     ensures { (s : _) → HasShape s command.entry → IfOk result (HasShape (with_arguments s
         (option_rule (codes "history") ∷ option_rule (codes "page") ∷ option_rule (codes "idle")
+        ∷ option_rule (codes "rate") ∷ option_rule (codes "house")
+        ∷ option_rule (codes "release-age") ∷ option_rule (codes "lost")
         ∷ flag_rule (codes "detached") ∷ flag_rule (codes "json") ∷ []))) }
 {
     let history =
         "Stores each row in this folder before a reply is sent, and goes on where it ended";
     let page = "Serves a page that shows the site, on this port, from 0 (a free one) to 65535";
     let idle = "Ends a session of which nothing came for so many seconds, from 1 to 86400";
+    let rate =
+        "Hears so many requests a second of a session at most, up to 1000000; 0: no limit; 1000 \
+                without it";
     let detached = "Runs until the system stops it, whatever standard input does";
     let json = "Prints the report as one object of JSON";
     let command = add_argument(command, option(alloc, "history", "FOLDER", history))?;
     let command = add_argument(command, option(alloc, "page", "N", page))?;
     let command = add_argument(command, option(alloc, "idle", "SECONDS", idle))?;
+    let command = add_argument(command, option(alloc, "rate", "N", rate))?;
+    let command = add_house_options(alloc, command)?;
     let command = add_argument(command, flag(alloc, "detached", detached))?;
     add_argument(command, flag(alloc, "json", json))
+}
+
+/// .. of what it does by itself.
+fn add_house_options<'a>(alloc: Global, command: Command<'a>) -> Result<Command<'a>, AllocError>
+    ensures { (s : _) → HasShape s command.entry → IfOk result (HasShape (with_arguments s
+        (option_rule (codes "house") ∷ option_rule (codes "release-age")
+        ∷ option_rule (codes "lost") ∷ []))) }
+{
+    let house = "The till, a manager, as which the station ends releases that nobody used";
+    let age =
+        "Ends a release after so many seconds without a lift, from 10 to 3600; 120 without it";
+    let lost =
+        "Says Offline for a dispenser that is gone for so many seconds; 0: never; 60 without it";
+    let command = add_argument(command, option(alloc, "house", "T", house))?;
+    let command = add_argument(command, option(alloc, "release-age", "SECONDS", age))?;
+    add_argument(command, option(alloc, "lost", "SECONDS", lost))
 }
 
 fn demo<'a>(alloc: Global) -> Result<Command<'a>, AllocError>

@@ -98,10 +98,15 @@ fn read_station<'a>(words: &ArgMatches<'a>) -> StationOptions<'a>
 {
     StationOptions {
         site: find_text(words, "FILE"),
-        port: read_text(words, "port"),
+        port: find_text(words, "port"),
+        doors: find_text(words, "doors"),
         history: find_text(words, "history"),
         page: find_text(words, "page"),
         idle: find_text(words, "idle"),
+        rate: find_text(words, "rate"),
+        house: find_text(words, "house"),
+        release_age: find_text(words, "release-age"),
+        lost: find_text(words, "lost"),
         detached: is_given(words, "detached"),
         json: is_given(words, "json"),
     }

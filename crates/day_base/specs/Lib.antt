@@ -1,3 +1,4 @@
 pub mod Ends
 pub mod Plans
+pub mod HousePlans
 pub mod Texts

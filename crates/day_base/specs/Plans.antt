@@ -4,11 +4,11 @@ use Rattle.std.specs.Str.Parse.{IsNumeral, digits_value}
 use Rattle.counter_desk.specs.declared.crews.TheConstants.{WORKERS}
 use Rattle.till_session.specs.declared.server.TheConstants.{SESSIONS}
 use Rattle.day_base.specs.declared.options.OptionFault.{OptionFault}
-use Rattle.day_base.specs.declared.options.OptionFault.TheVariants.{Idle, Page, Port}
+use Rattle.day_base.specs.declared.options.OptionFault.TheVariants.{Idle, Page, Port, Rate}
 use Rattle.day_base.specs.declared.options.OptionFault.TheVariants.{Sessions, Workers}
 use Rattle.day_base.specs.declared.plan.ServerPlan.{ServerPlan}
 use Rattle.day_base.specs.declared.plan.StationPlan.{StationPlan}
-use Rattle.day_base.specs.declared.plan.TheConstants.{IDLE_SECONDS}
+use Rattle.day_base.specs.declared.plan.TheConstants.{GREATEST_RATE, IDLE_SECONDS, USUAL_RATE}
 
 -- the word is of decimal digits alone, and the number that they write is n, in this range
 abbrev pub TellsNumber : ℕ → ℕ → List ℕ → ℕ → Type 0
@@ -52,23 +52,34 @@ TellsIdle None None = ⊤
 TellsIdle (Some word) (Some n) = TellsNumber 1 IDLE_SECONDS word n
 TellsIdle word n = ⊥
 
--- the page's port; without a word there is no page
-abbrev pub TellsPage : Option (List ℕ) → Option ℕ → Type 0
-TellsPage None None = ⊤
-TellsPage (Some word) (Some n) = TellsPort word n
-TellsPage word n = ⊥
+-- a port, for peers or of the page; without a word there is none
+abbrev pub TellsPlace : Option (List ℕ) → Option ℕ → Type 0
+TellsPlace None None = ⊤
+TellsPlace (Some word) (Some n) = TellsPort word n
+TellsPlace word n = ⊥
+
+-- how many requests a second are heard of a session at most, 0 for no limit; without a word 1,000
+abbrev pub TellsRate : Option (List ℕ) → ℕ → Type 0
+TellsRate None n = n ≡ USUAL_RATE
+TellsRate (Some word) n = TellsNumber 0 GREATEST_RATE word n
 
 -- each of the words tells its part of the plan
-abbrev pub TellsStationPlan : List ℕ → Option (List ℕ) → Option (List ℕ) → StationPlan → Type 0
-TellsStationPlan port page idle plan =
-    TellsPort port plan.port × TellsPage page plan.page × TellsIdle idle plan.idle
+abbrev pub TellsStationPlan : Option (List ℕ) → Option (List ℕ) → Option (List ℕ) → Option (List ℕ)
+    → StationPlan → Type 0
+TellsStationPlan port page idle rate plan =
+    TellsPlace port plan.port × TellsPlace page plan.page × TellsIdle idle plan.idle
+    × TellsRate rate plan.rate
 
 -- the first word that tells no number in its range
-abbrev pub IsFirstStationFault : List ℕ → Option (List ℕ) → Option (List ℕ) → OptionFault → Type 0
-IsFirstStationFault port page idle Port = (n : ℕ) → ¬ TellsPort port n
-IsFirstStationFault port page idle Page =
-    ((n : ℕ) × TellsPort port n) × ((n : Option ℕ) → ¬ TellsPage page n)
-IsFirstStationFault port page idle Idle =
-    ((n : ℕ) × TellsPort port n) × ((n : Option ℕ) × TellsPage page n)
+abbrev pub IsFirstStationFault : Option (List ℕ) → Option (List ℕ) → Option (List ℕ)
+    → Option (List ℕ) → OptionFault → Type 0
+IsFirstStationFault port page idle rate Port = (n : Option ℕ) → ¬ TellsPlace port n
+IsFirstStationFault port page idle rate Page =
+    ((n : Option ℕ) × TellsPlace port n) × ((n : Option ℕ) → ¬ TellsPlace page n)
+IsFirstStationFault port page idle rate Idle =
+    ((n : Option ℕ) × TellsPlace port n) × ((n : Option ℕ) × TellsPlace page n)
     × ((n : Option ℕ) → ¬ TellsIdle idle n)
-IsFirstStationFault port page idle fault = ⊥
+IsFirstStationFault port page idle rate Rate =
+    ((n : Option ℕ) × TellsPlace port n) × ((n : Option ℕ) × TellsPlace page n)
+    × ((n : Option ℕ) × TellsIdle idle n) × ((n : ℕ) → ¬ TellsRate rate n)
+IsFirstStationFault port page idle rate fault = ⊥

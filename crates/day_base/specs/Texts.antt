@@ -17,10 +17,15 @@ listening_line port = codes "listening 127.0.0.1:" ++ decimal port ++ codes "\n"
 abbrev pub page_line : ℕ → List ℕ
 page_line page = codes "page http://127.0.0.1:" ++ decimal page ++ codes "/\n"
 
+-- where a station listens: on a port, or at its doors alone
+abbrev pub station_line : Option ℕ → List ℕ
+station_line None = codes "listening at doors\n"
+station_line (Some port) = listening_line port
+
 -- where a station listens, and where its page is, if it has one
-abbrev pub places_text : ℕ → Option ℕ → List ℕ
-places_text port None = listening_line port
-places_text port (Some page) = listening_line port ++ page_line page
+abbrev pub places_text : Option ℕ → Option ℕ → List ℕ
+places_text port None = station_line port
+places_text port (Some page) = station_line port ++ page_line page
 
 -- the figures of a station's book: its rows are those that a history keeps
 abbrev pub kept_totals : Book → Totals

@@ -1,12 +1,14 @@
 //! The plans of a server and of a station, from the words of a command line.
 
 ghost use Rattle.std.specs.Prelude.{ℕ, Option, ◌≡◌, IfOk, IfErr, IfSome, IfNone, option_map};
-ghost use Rattle.day_base.specs.Plans.{TellsIdle, TellsNumber, TellsPage, TellsPlan};
-ghost use Rattle.day_base.specs.Plans.{TellsStationPlan};
+ghost use Rattle.day_base.specs.Plans.{TellsIdle, TellsNumber, TellsPlace, TellsPlan};
+ghost use Rattle.day_base.specs.Plans.{TellsRate, TellsStationPlan};
 ghost use Rattle.day_base.specs.Plans.{IsFirstFault, IsFirstStationFault};
 
-use crate::plan::{IDLE_SECONDS, ServerPlan, StationPlan};
+use crate::house_plan::{LEAST_RELEASE_SECONDS, MOST_LOST_SECONDS, MOST_RELEASE_SECONDS};
+use crate::plan::{GREATEST_RATE, IDLE_SECONDS, ServerPlan, StationPlan, USUAL_RATE};
 use counter_desk::WORKERS;
+use site_base::TILLS;
 use thiserror::Error;
 use till_session::SESSIONS;
 
@@ -28,6 +30,18 @@ pub enum OptionFault {
     /// The seconds of a silent session.
     #[error("--idle is a decimal number from 1 to {max}", max = IDLE_SECONDS)]
     Idle,
+    /// The rate of a session.
+    #[error("--rate is a decimal number from 0 to {max}", max = GREATEST_RATE)]
+    Rate,
+    /// The house till.
+    #[error("--house is a decimal number from 1 to {max}", max = TILLS)]
+    House,
+    /// The seconds of a release.
+    #[error("--release-age is a decimal number from {least} to {most}", least = LEAST_RELEASE_SECONDS, most = MOST_RELEASE_SECONDS)]
+    ReleaseAge,
+    /// The seconds of a dispenser that is gone.
+    #[error("--lost is a decimal number from 0 to {max}", max = MOST_LOST_SECONDS)]
+    Lost,
 }
 
 impl ServerPlan {
@@ -53,34 +67,58 @@ impl ServerPlan {
 impl StationPlan {
     /// The plan that these words tell, or the first of them that isn't a decimal number in its
     /// range: the port from 0 (a free one) to 65535, that of the page too, where there is a word of
-    /// it, the seconds, where there is a word of them, from 1 to 86,400. A sign is no digit.
+    /// them, the seconds, where there is a word of them, from 1 to 86,400, the rate from 0 to
+    /// 1,000,000, 1,000 where there is no word of it. A sign is no digit.
     pub fn read(
-        port: &str,
+        port: Option<&str>,
         page: Option<&str>,
         idle: Option<&str>,
+        rate: Option<&str>,
     ) -> Result<StationPlan, OptionFault>
-        ensures plan { IfOk result (λ plan. TellsStationPlan port.now
-            (option_map (λ w. w.now) page.entry) (option_map (λ w. w.now) idle.entry) plan) }
-        ensures first { IfErr result (λ fault. IsFirstStationFault port.now
-            (option_map (λ w. w.now) page.entry) (option_map (λ w. w.now) idle.entry) fault) }
+        ensures plan { IfOk result (λ plan. TellsStationPlan
+            (option_map (λ w. w.now) port.entry) (option_map (λ w. w.now) page.entry)
+            (option_map (λ w. w.now) idle.entry)
+            (option_map (λ w. w.now) rate.entry) plan) }
+        ensures first { IfErr result (λ fault. IsFirstStationFault
+            (option_map (λ w. w.now) port.entry) (option_map (λ w. w.now) page.entry)
+            (option_map (λ w. w.now) idle.entry)
+            (option_map (λ w. w.now) rate.entry) fault) }
     {
-        let port = number_in(port, 0, u64::from(u16::MAX)).ok_or(OptionFault::Port)?;
+        let port = read_port(port)?;
         let page = read_page(page)?;
         let idle = read_idle(idle)?;
+        let rate = read_rate(rate)?;
         Ok(StationPlan {
-            port: port as u16,
+            port,
             page,
             idle,
+            rate,
         })
     }
 }
 
-/// The port that a word tells, where there is one.
+/// The port for peers that a word tells, where there is one.
+fn read_port(port: Option<&str>) -> Result<Option<u16>, OptionFault>
+    ensures told { IfOk result (λ n. TellsPlace (option_map (λ w. w.now) port.entry) n) }
+    ensures other { IfErr result (λ fault.
+        (fault ≡ OptionFault.Port)
+        × ((n : Option ℕ) → ¬ TellsPlace (option_map (λ w. w.now) port.entry) n)) }
+{
+    match port {
+        None => Ok(None),
+        Some(word) => match number_in(word, 0, u64::from(u16::MAX)) {
+            Some(port) => Ok(Some(port as u16)),
+            None => Err(OptionFault::Port),
+        },
+    }
+}
+
+/// The page's port that a word tells, where there is one.
 fn read_page(page: Option<&str>) -> Result<Option<u16>, OptionFault>
-    ensures told { IfOk result (λ n. TellsPage (option_map (λ w. w.now) page.entry) n) }
+    ensures told { IfOk result (λ n. TellsPlace (option_map (λ w. w.now) page.entry) n) }
     ensures other { IfErr result (λ fault.
         (fault ≡ OptionFault.Page)
-        × ((n : Option ℕ) → ¬ TellsPage (option_map (λ w. w.now) page.entry) n)) }
+        × ((n : Option ℕ) → ¬ TellsPlace (option_map (λ w. w.now) page.entry) n)) }
 {
     match page {
         None => Ok(None),
@@ -107,8 +145,24 @@ fn read_idle(idle: Option<&str>) -> Result<Option<u64>, OptionFault>
     }
 }
 
+/// The rate that a word tells; the usual one where there is none.
+fn read_rate(rate: Option<&str>) -> Result<u64, OptionFault>
+    ensures told { IfOk result (λ n. TellsRate (option_map (λ w. w.now) rate.entry) n) }
+    ensures other { IfErr result (λ fault.
+        (fault ≡ OptionFault.Rate)
+        × ((n : ℕ) → ¬ TellsRate (option_map (λ w. w.now) rate.entry) n)) }
+{
+    match rate {
+        None => Ok(USUAL_RATE),
+        Some(word) => match number_in(word, 0, GREATEST_RATE) {
+            Some(rate) => Ok(rate),
+            None => Err(OptionFault::Rate),
+        },
+    }
+}
+
 /// The number in this range that a word of decimal digits tells.
-fn number_in(word: &str, least: u64, most: u64) -> Option<u64>
+pub(crate) fn number_in(word: &str, least: u64, most: u64) -> Option<u64>
     ensures told { IfSome result (λ n. TellsNumber least most word.now n) }
     ensures other { IfNone result ((n : ℕ) → ¬ TellsNumber least most word.now n) }
 {

@@ -26,15 +26,23 @@ pub struct ServerPlan {
 /// A session of which nothing comes for so many seconds can be ended, at most.
 pub const IDLE_SECONDS: u64 = 86_400;
 
-/// The ports on which a station listens, and how long a peer may be silent.
+/// A station hears so many requests a second of a session, at most.
+pub const GREATEST_RATE: u64 = 1_000_000;
+
+/// .. so many where nothing is said of it.
+pub const USUAL_RATE: u64 = 1_000;
+
+/// The ports on which a station listens, how long a peer may be silent, and how much is heard.
 #[derive(Clone, Copy, Debug, PartialEq, Eq)]
 pub struct StationPlan {
-    /// The port, 0 for a free one.
-    pub port: u16,
+    /// The port, 0 for a free one; without a number it listens at doors alone.
+    pub port: Option<u16>,
     /// The page's port, 0 for a free one; without a number there is no page.
     pub page: Option<u16>,
     /// A session of which nothing comes for so many seconds ends; without a number none does.
     pub idle: Option<u64>,
+    /// So many requests a second are heard of a session at most; 0: as many as come.
+    pub rate: u64,
 }
 
 /// How a day's report is written.

@@ -6,7 +6,7 @@ ghost use Rattle.std.specs.Io.KnownBytes.{Appends};
 ghost use Rattle.devices.specs.Counted.{device_of, failures_of};
 ghost use Rattle.devices.specs.Devices.{AppendsFront, one_more};
 ghost use Rattle.day_report.specs.Text.{report_text};
-ghost use Rattle.day_base.specs.Texts.{listening_line, page_line, places_text};
+ghost use Rattle.day_base.specs.Texts.{listening_line, page_line, places_text, station_line};
 
 use crate::fault::DayFault;
 use counter_desk::Settled;
@@ -41,11 +41,11 @@ pub fn put_listening<W: Write>(
     Ok(())
 }
 
-/// Writes where a station listens, and where its page is, if it has one. However it ends, a front
-/// of these lines is written.
+/// Writes where a station listens, on this port or at its doors alone, and where its page is, if it
+/// has one. However it ends, a front of these lines is written.
 pub fn put_places<W: Write>(
     alloc: Global,
-    port: u16,
+    port: Option<u16>,
     page: Option<u16>,
     writer: &mut Counted<W>,
     turns: &mut u64,
@@ -61,16 +61,26 @@ pub fn put_places<W: Write>(
 }
 
 /// The lines that tell where a station listens, and where its page is.
-fn places_of(alloc: Global, port: u16, page: Option<u16>) -> Result<String, NoMemory>
+fn places_of(alloc: Global, port: Option<u16>, page: Option<u16>) -> Result<String, NoMemory>
     ensures { IfOk result (λ text. string_bytes text ≡ places_text port page) }
 {
-    let mut lines = line_of(alloc, port)?;
+    let mut lines = station_line_of(alloc, port)?;
     let Some(page) = page else {
         return Ok(lines);
     };
     let line = page_line_of(alloc, page)?;
     lines.push_str(line.as_str())?;
     Ok(lines)
+}
+
+/// The line that tells where a station listens.
+fn station_line_of(alloc: Global, port: Option<u16>) -> Result<String, NoMemory>
+    ensures { IfOk result (λ line. string_bytes line ≡ station_line port) }
+{
+    match port {
+        None => Ok(format!(in alloc; "listening at doors\n")?),
+        Some(port) => line_of(alloc, port),
+    }
 }
 
 /// The line that tells where a station's page is.

@@ -59,7 +59,10 @@ fn run<T: Threads + Wait + Sync>(rt: &HostRuntime, threads: &T, command: Command
         Command::Sales(options) if is_folder(rt, options.site) => run_sales_folder(rt, options),
         Command::Sales(options) => run_sales(rt, input, options),
         Command::Serve(options) => run_serve(rt, threads, options),
-        Command::Station(options) => run_station(rt, threads, input, options),
+        Command::Station(options) => match rt.clone() {
+            Ok(errors) => run_station(rt, threads, input, errors, options),
+            Err(_) => exit_no_memory(rt),
+        },
         Command::Demo(options) => run_demo(rt, threads, options),
         Command::Shifts(options) => run_shifts(rt, options.history, options.json),
         Command::Next(history) => run_next(rt, history),

@@ -1,22 +1,27 @@
-//! `forecourt station [FILE] [--history FOLDER] --port N [--page N] [--idle SECONDS] [--detached]
+//! `forecourt station [FILE] [--history FOLDER] [--port N] [--doors FOLDER] [--page N]
+//! [--idle SECONDS] [--rate N] [--house T] [--release-age SECONDS] [--lost SECONDS] [--detached]
 //! [--json]`.
 
 ghost use Rattle.std.specs.Prelude.{◌≡◌};
+ghost use Rattle.station.specs.Gates.{open_gates};
 ghost use Rattle.station.specs.Runs.{opening_station};
 ghost use Rattle.journal.specs.Opening.{HasNobodyOn};
 
+use crate::doors::open_doors;
+use crate::error_lines::{ErrorLines, Reporting};
 use crate::found::{FoundHistory, print_found};
 use crate::histories::open_station;
 use crate::input_watch::InputWatch;
 use command_line::StationOptions;
-use day_base::{DayFault, ReportForm, StationPlan, exit_day};
+use day_base::{DayFault, HousePlan, OptionFault, ReportForm, StationPlan, exit_day};
 use devices::Counted;
 use history_files::HistoryDisk;
 use journal::Opened;
-use peer_connections::Connections;
-use program_io::{COMMAND_LINE, TURNS, exit_with};
+use peer_connections::{Connections, Patience};
+use program_io::{COMMAND_LINE, FAULT, TURNS, exit_with};
+use site_base::{SiteConfig, TillNo};
 use station_days::{station_day, to_day_fault};
-use station_server::{ServerFault, StationServer};
+use station_server::{Doors, ServerFault, StationServer};
 use std::fs::File;
 use std::io;
 use std::io::Read;
@@ -40,43 +45,147 @@ impl<R: Files<File = File> + Net + Clock + RandomSource + Print + Eprint + Alloc
     for R {}
 
 /// Serves every till and dispenser of a site until this input ends, and prints the report of the
-/// day; with `--detached` until the system stops it. Wrong numbers come before a folder that is in
-/// use, that before faults of the site file, those before the history's, and those before the
-/// listener's.
-pub fn run_station<R: StationHost, T: Threads + Wait + Sync, I: Read + Send + Drop + 'static>(
-    rt: &R,
-    threads: &T,
-    input: I,
-    options: StationOptions<'_>,
-) -> ExitCode {
-    let plan = match StationPlan::read(options.port, options.page, options.idle) {
-        Ok(plan) => plan,
+/// day; with `--detached` until the system stops it. Wrong numbers come before a
+/// folder that is in use, that before faults of the site file, those before the history's, those
+/// before faults of doors, and those before the listener's.
+pub fn run_station<
+    R: StationHost,
+    T: Threads + Wait + Sync,
+    I: Read + Send + Drop + 'static,
+    E: Eprint + Clock + Send + Drop + 'static,
+>(rt: &R, threads: &T, input: I, errors: E, options: StationOptions<'_>) -> ExitCode {
+    let plans = match Plans::read(&options) {
+        Ok(plans) => plans,
         Err(fault) => return exit_with(eprintln!(rt; "error: {fault}"), COMMAND_LINE),
     };
+    if options.port.is_none() && options.doors.is_none() {
+        let needed = "a station needs --port N or --doors FOLDER";
+        return exit_with(eprintln!(rt; "error: {needed}"), COMMAND_LINE);
+    }
     match open_station(rt, options.site, options.history) {
         Ok((opened, found)) => {
-            let end = serve_on(rt, threads, input, opened, found, plan, options);
-            exit_day(rt, end)
+            run_opened(rt, threads, input, errors, opened, found, plans, options)
         }
         Err(status) => status,
     }
 }
 
+/// What the words ask of a station: where it listens, and what it does by itself.
+#[derive(Clone, Copy, Debug)]
+struct Plans {
+    station: StationPlan,
+    house: HousePlan,
+}
+
+impl Plans {
+    fn read(options: &StationOptions<'_>) -> Result<Plans, OptionFault> {
+        let station = StationPlan::read(options.port, options.page, options.idle, options.rate)?;
+        let house = HousePlan::read(options.house, options.release_age, options.lost)?;
+        Ok(Plans { station, house })
+    }
+
+    /// How long a dispenser may be gone, and how long a release may stand.
+    fn patience(&self) -> Patience {
+        Patience {
+            lost_seconds: self.house.lost_seconds,
+            release_seconds: self.house.release_seconds,
+        }
+    }
+}
+
+/// Lets the house till act, if there is one, and serves a day of this station.
+fn run_opened<
+    R: StationHost,
+    T: Threads + Wait + Sync,
+    I: Read + Send + Drop + 'static,
+    E: Eprint + Clock + Send + Drop + 'static,
+>(
+    rt: &R,
+    threads: &T,
+    input: I,
+    errors: E,
+    mut opened: Opened<HistoryDisk<'_, R>>,
+    found: FoundHistory,
+    plans: Plans,
+    options: StationOptions<'_>,
+) -> ExitCode
+    requires alone { opened.station.station
+        ≡ opening_station open_gates opened.station.station.book }
+    requires off { HasNobodyOn opened.station.station.book }
+{
+    let house = match find_house(opened.station.book().config(), plans.house.house) {
+        Ok(house) => house,
+        Err(number) => return exit_with(eprintln!(rt; "house {number}: no manager"), FAULT),
+    };
+    let mut open = match open_doors(rt, options.doors) {
+        Ok(open) => open,
+        Err(status) => return status,
+    };
+    if let Some(till) = house {
+        open.gates.set_house(till);
+    }
+    opened.station.set_gates(open.gates);
+    let lines = match ErrorLines::start(rt, threads, rt.alloc(), errors) {
+        Ok(lines) => lines,
+        Err(fault) => return exit_day::<()>(rt, Err(fault)),
+    };
+    let reporting = Reporting {
+        host: rt,
+        lines: &lines,
+    };
+    let end = serve_on(
+        rt, &reporting, threads, input, opened, found, open.doors, plans, options,
+    );
+    lines.end(threads);
+    exit_day(rt, end)
+}
+
+/// The house till of this number, if there is to be one; the number, where it is no manager's.
+fn find_house(config: &SiteConfig, number: Option<u8>) -> Result<Option<TillNo>, u8> {
+    let Some(number) = number else {
+        return Ok(None);
+    };
+    for till in config.managers() {
+        if till.get() == number {
+            return Ok(Some(*till));
+        }
+    }
+    Err(number)
+}
+
 /// Listens, and serves a day of this station, of whose history this was found.
 fn serve_on<R: StationHost, T: Threads + Wait + Sync, I: Read + Send + Drop + 'static>(
     rt: &R,
+    reporting: &Reporting<'_, R>,
     threads: &T,
     input: I,
     opened: Opened<HistoryDisk<'_, R>>,
     found: FoundHistory,
-    plan: StationPlan,
+    doors: Doors,
+    plans: Plans,
     options: StationOptions<'_>,
 ) -> Result<(), DayFault>
-    requires alone { opened.station.station ≡ opening_station opened.station.station.book }
+    requires alone { opened.station.station
+        ≡ opening_station opened.station.station.gates opened.station.station.book }
     requires off { HasNobodyOn opened.station.station.book }
 {
-    let mut connections = Connections::new(rt.alloc(), opened.station)?;
-    let end = serve_peers(rt, threads, input, found, &mut connections, plan, options);
+    let mut connections = Connections::new(
+        rt.alloc(),
+        opened.station,
+        plans.station.rate,
+        plans.patience(),
+    )?;
+    let end = serve_peers(
+        rt,
+        reporting,
+        threads,
+        input,
+        found,
+        &mut connections,
+        doors,
+        plans,
+        options,
+    );
     connections.close();
     end
 }
@@ -85,27 +194,31 @@ fn serve_on<R: StationHost, T: Threads + Wait + Sync, I: Read + Send + Drop + 's
 /// found.
 fn serve_peers<R: StationHost, T: Threads + Wait + Sync, I: Read + Send + Drop + 'static>(
     rt: &R,
+    reporting: &Reporting<'_, R>,
     threads: &T,
     input: I,
     found: FoundHistory,
     connections: &mut Connections<HistoryDisk<'_, R>>,
-    plan: StationPlan,
+    doors: Doors,
+    plans: Plans,
     options: StationOptions<'_>,
 ) -> Result<(), DayFault>
     requires alone { connections.old.stored.station
-        ≡ opening_station connections.old.stored.station.book }
+        ≡ opening_station connections.old.stored.station.gates
+        connections.old.stored.station.book }
     requires off { HasNobodyOn connections.old.stored.station.book }
 {
-    match listen(rt, plan) {
+    match listen(rt, doors, plans.station) {
         Ok(mut server) => {
             let end = serve_until_end(
                 rt,
+                reporting,
                 threads,
                 input,
                 found,
                 connections,
                 &mut server,
-                plan,
+                plans,
                 options,
             );
             server.close();
@@ -118,26 +231,29 @@ fn serve_peers<R: StationHost, T: Threads + Wait + Sync, I: Read + Send + Drop +
 /// Serves a day on this server: until its input ends, or detached, until the system stops it.
 fn serve_until_end<R: StationHost, T: Threads + Wait + Sync, I: Read + Send + Drop + 'static>(
     rt: &R,
+    reporting: &Reporting<'_, R>,
     threads: &T,
     input: I,
     found: FoundHistory,
     connections: &mut Connections<HistoryDisk<'_, R>>,
     server: &mut StationServer,
-    plan: StationPlan,
+    plans: Plans,
     options: StationOptions<'_>,
 ) -> Result<(), DayFault>
     requires alone { connections.old.stored.station
-        ≡ opening_station connections.old.stored.station.book }
+        ≡ opening_station connections.old.stored.station.gates
+        connections.old.stored.station.book }
     requires off { HasNobodyOn connections.old.stored.station.book }
 {
     if options.detached {
         return serve_day(
             rt,
+            reporting,
             threads,
             found,
             connections,
             server,
-            plan.idle,
+            plans.station.idle,
             options.json,
         );
     }
@@ -148,11 +264,12 @@ fn serve_until_end<R: StationHost, T: Threads + Wait + Sync, I: Read + Send + Dr
     let watch = InputWatch::start(threads, rt.alloc(), waker, input)?;
     let end = serve_day(
         rt,
+        reporting,
         threads,
         found,
         connections,
         server,
-        plan.idle,
+        plans.station.idle,
         options.json,
     );
     watch.end(threads, end.is_ok());
@@ -162,6 +279,7 @@ fn serve_until_end<R: StationHost, T: Threads + Wait + Sync, I: Read + Send + Dr
 /// Says what was found of the history, and serves a day.
 fn serve_day<R: StationHost, T: Wait>(
     rt: &R,
+    reporting: &Reporting<'_, R>,
     threads: &T,
     found: FoundHistory,
     connections: &mut Connections<HistoryDisk<'_, R>>,
@@ -170,7 +288,8 @@ fn serve_day<R: StationHost, T: Wait>(
     json: bool,
 ) -> Result<(), DayFault>
     requires alone { connections.old.stored.station
-        ≡ opening_station connections.old.stored.station.book }
+        ≡ opening_station connections.old.stored.station.gates
+        connections.old.stored.station.book }
     requires off { HasNobodyOn connections.old.stored.station.book }
 {
     print_found(rt, found)?;
@@ -178,7 +297,7 @@ fn serve_day<R: StationHost, T: Wait>(
     let mut left = TURNS;
     station_day(
         threads,
-        rt,
+        reporting,
         rt.alloc(),
         connections,
         server,
@@ -189,12 +308,13 @@ fn serve_day<R: StationHost, T: Wait>(
     )
 }
 
-/// Listens for peers, and for browsers if there is a page.
+/// Listens for peers, also at these doors, and for browsers if there is a page.
 fn listen<R: Net + Clock + RandomSource + AllocGlobal>(
     rt: &R,
+    doors: Doors,
     plan: StationPlan,
 ) -> Result<StationServer, ServerFault> {
-    let mut server = StationServer::bind(rt, rt, rt.alloc(), plan.port)?;
+    let mut server = StationServer::bind(rt, rt, rt.alloc(), plan.port, doors)?;
     if let Some(port) = plan.page {
         if let Err(fault) = server.bind_page(rt, rt, port) {
             server.close();

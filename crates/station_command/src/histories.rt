@@ -2,6 +2,7 @@
 
 ghost use Rattle.std.specs.Prelude.{◌≡◌, ◌≤◌, ℕ, IfErr, IfNone, IfOk, IfSome, List, None, Option};
 ghost use Rattle.std.specs.Prelude.{string_bytes};
+ghost use Rattle.station.specs.Gates.{open_gates};
 ghost use Rattle.station.specs.Runs.{opening_station};
 ghost use Rattle.journal.specs.declared.memory.TheConstants.{LEAST_ROWS};
 ghost use Rattle.chapters.specs.ChapterText.{site_name};
@@ -32,7 +33,7 @@ pub fn open_station<'a, R: Files<File = File> + Clock + Eprint + AllocGlobal>(
     history: Option<&str>,
 ) -> Result<(Opened<HistoryDisk<'a, R>>, FoundHistory), ExitCode>
     ensures alone { IfOk result
-        (λ o. o.0.station.station ≡ opening_station o.0.station.station.book) }
+        (λ o. o.0.station.station ≡ opening_station open_gates o.0.station.station.book) }
     ensures off { IfOk result (λ o. HasNobodyOn o.0.station.station.book) }
     ensures kept { IfSome history.entry (λ _. IfOk result
         (λ o. GoesOn o.0.rows o.0.station)) }
@@ -54,7 +55,7 @@ fn open_unkept<'a, R: Files<File = File> + Eprint + AllocGlobal>(
     site: &str,
 ) -> Result<(Opened<HistoryDisk<'a, R>>, FoundHistory), ExitCode>
     ensures alone { IfOk result
-        (λ o. o.0.station.station ≡ opening_station o.0.station.station.book) }
+        (λ o. o.0.station.station ≡ opening_station open_gates o.0.station.station.book) }
     ensures off { IfOk result (λ o. HasNobodyOn o.0.station.station.book) }
     ensures journal { IfOk result (λ o. o.0.station.journal ≡ None) }
     ensures failed { IfErr result IsFailed }
@@ -70,7 +71,7 @@ fn open_without<'a, R: Files<File = File> + Eprint + AllocGlobal>(
 ) -> Result<Opened<HistoryDisk<'a, R>>, ExitCode>
     requires { LEAST_ROWS ≤ config.now.rows }
     ensures alone { IfOk result
-        (λ o. o.station.station ≡ opening_station o.station.station.book) }
+        (λ o. o.station.station ≡ opening_station open_gates o.station.station.book) }
     ensures off { IfOk result (λ o. HasNobodyOn o.station.station.book) }
     ensures journal { IfOk result (λ o. o.station.journal ≡ None) }
     ensures without { IfOk result (λ o. (o.rows ≡ 0)
@@ -91,7 +92,7 @@ fn open_kept<'a, R: Files<File = File> + Clock + Eprint + AllocGlobal>(
     site: Option<&str>,
 ) -> Result<(Opened<HistoryDisk<'a, R>>, FoundHistory), ExitCode>
     ensures alone { IfOk result
-        (λ o. o.0.station.station ≡ opening_station o.0.station.station.book) }
+        (λ o. o.0.station.station ≡ opening_station open_gates o.0.station.station.book) }
     ensures off { IfOk result (λ o. HasNobodyOn o.0.station.station.book) }
     ensures goes_on { IfOk result (λ o. GoesOn o.0.rows o.0.station) }
     ensures failed { IfErr result IsFailed }
@@ -121,7 +122,7 @@ fn open_with<'a, R: Files<File = File> + Clock + Eprint + AllocGlobal>(
 ) -> Result<Opened<HistoryDisk<'a, R>>, ExitCode>
     requires { LEAST_ROWS ≤ config.now.rows }
     ensures alone { IfOk result
-        (λ o. o.station.station ≡ opening_station o.station.station.book) }
+        (λ o. o.station.station ≡ opening_station open_gates o.station.station.book) }
     ensures off { IfOk result (λ o. HasNobodyOn o.station.station.book) }
     ensures opened { IfOk result (λ o.
         (clock : Option (List ℕ))

@@ -6,9 +6,12 @@
 #![tactic(auto)]
 
 mod command;
+mod doors;
+mod error_lines;
 mod found;
 mod histories;
 mod input_watch;
+mod line_tally;
 mod station_site;
 
 pub use command::{StationHost, run_station};

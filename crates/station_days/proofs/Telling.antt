@@ -7,6 +7,7 @@ use Rattle.devices.proofs.KnownBytes.{Appends-front, Appends-then}
 use Rattle.devices.proofs.KnownBytes.{AppendsFront-longer}
 use Rattle.written_site.specs.SiteState.{is_signed_on}
 use Rattle.site_book.specs.Book.{Book, site_of_book}
+use Rattle.station.specs.Gates.{GateState}
 use Rattle.station.specs.Moves.{StationState}
 use Rattle.station.specs.Reads.{HasNoPeer}
 use Rattle.station.specs.Runs.{Move, after, opening_station}
@@ -18,78 +19,78 @@ use Rattle.station_days.specs.StationDays.{TellsDay, TellsFront, day_book, day_s
 use Rattle.day_base.specs.Texts.{places_text, report_in}
 
 -- what a station comes to that was opened at this book
-reached_station : (opens : Book) (s t : StationState) → s ≡ opening_station opens
-    → (r : Reaches s t) → t ≡ day_station opens r.moves
-reached_station opens s t begins r = r.lead ∙ ap (after r.moves) begins
+reached_station : (g : GateState) (opens : Book) (s t : StationState) → s ≡ opening_station g opens
+    → (r : Reaches s t) → t ≡ day_station g opens r.moves
+reached_station g opens s t begins r = r.lead ∙ ap (after r.moves) begins
 
 -- its book
-reached_book : (opens x : Book) (s t : StationState) → s ≡ opening_station opens
-    → (r : Reaches s t) → x ≡ t.book → x ≡ day_book opens r.moves
-reached_book opens x s t begins r is =
-    is ∙ ap (λ (u : StationState). u.book) (reached_station opens s t begins r)
+reached_book : (g : GateState) (opens x : Book) (s t : StationState) → s ≡ opening_station g opens
+    → (r : Reaches s t) → x ≡ t.book → x ≡ day_book g opens r.moves
+reached_book g opens x s t begins r is =
+    is ∙ ap (λ (u : StationState). u.book) (reached_station g opens s t begins r)
 
 -- where nobody is left, no till is signed on
-nobody_signed : (opens : Book) (moves : List Move) → HasNobodyOn opens
-    → HasNoPeer (day_station opens moves)
-    → (t : ℕ) → is_signed_on (site_of_book (day_book opens moves)) t ≡ false
-nobody_signed opens moves off left t =
-    by_test (is_signed_on (site_of_book (day_book opens moves)) t) refl
+nobody_signed : (g : GateState) (opens : Book) (moves : List Move) → HasNobodyOn opens
+    → HasNoPeer (day_station g opens moves)
+    → (t : ℕ) → is_signed_on (site_of_book (day_book g opens moves)) t ≡ false
+nobody_signed g opens moves off left t =
+    by_test (is_signed_on (site_of_book (day_book g opens moves)) t) refl
   where
-    by_test : (on : Bool) → is_signed_on (site_of_book (day_book opens moves)) t ≡ on
-        → is_signed_on (site_of_book (day_book opens moves)) t ≡ false
+    by_test : (on : Bool) → is_signed_on (site_of_book (day_book g opens moves)) t ≡ on
+        → is_signed_on (site_of_book (day_book g opens moves)) t ≡ false
     by_test false is = is
     by_test true is =
-        let held = tills_have opens moves off t is in
+        let held = tills_have g opens moves off t is in
         absurd (let never : None ≡ Some held.session = sym (left held.key) ∙ held.there in cc)
 
 -- where it listens was written, and then the report
-pub tells_station : (opens : Book) (u v w : Option (List ℕ)) (said port : ℕ)
+pub tells_station : (g : GateState) (opens : Book) (u v w : Option (List ℕ)) (said port : Option ℕ)
     (page_said page : Option ℕ) (form : ReportForm) (x : Book) (s t : StationState)
-    → said ≡ port → page_said ≡ page → s ≡ opening_station opens
+    → said ≡ port → page_said ≡ page → s ≡ opening_station g opens
     → HasNobodyOn opens
     → Reaches s t → HasNoPeer t → x ≡ t.book → Appends u v (places_text said page_said)
-    → Appends v w (report_in form x) → TellsDay opens port page form u w
-tells_station opens u v w said port page_said page form x s t same also begins off r left is line
+    → Appends v w (report_in form x) → TellsDay g opens port page form u w
+tells_station g opens u v w said port page_said page form x s t same also begins off r left is line
     report =
     record {
       moves = r.moves;
       room = subst (FindRoom r.moves) begins r.room;
-      left = subst HasNoPeer (reached_station opens s t begins r) left;
-      off = nobody_signed opens r.moves off
-          (subst HasNoPeer (reached_station opens s t begins r) left);
-      told = Appends-then u v w (places_text port page) (report_in form (day_book opens r.moves))
+      left = subst HasNoPeer (reached_station g opens s t begins r) left;
+      off = nobody_signed g opens r.moves off
+          (subst HasNoPeer (reached_station g opens s t begins r) left);
+      told = Appends-then u v w (places_text port page) (report_in form (day_book g opens r.moves))
           (subst (λ (o : Option ℕ). Appends u v (places_text port o)) also
-          (subst (λ (n : ℕ). Appends u v (places_text n page_said)) same line))
+          (subst (λ (n : Option ℕ). Appends u v (places_text n page_said)) same line))
           (subst (λ (y : Book). Appends v w (report_in form y))
-          (reached_book opens x s t begins r is) report);
+          (reached_book g opens x s t begins r is) report);
     }
 
 -- .. and then a front of it
-pub tells_station_front : (opens : Book) (u v w : Option (List ℕ)) (said port : ℕ)
+pub tells_station_front : (g : GateState) (opens : Book) (u v w : Option (List ℕ)) (said port : Option ℕ)
     (page_said page : Option ℕ) (form : ReportForm) (x : Book) (s t : StationState)
-    → said ≡ port → page_said ≡ page → s ≡ opening_station opens
+    → said ≡ port → page_said ≡ page → s ≡ opening_station g opens
     → Reaches s t → x ≡ t.book → Appends u v (places_text said page_said)
     → AppendsFront v w (report_in form x)
-    → TellsFront opens port page form u w
-tells_station_front opens u v w said port page_said page form x s t same also begins r is line
+    → TellsFront g opens port page form u w
+tells_station_front g opens u v w said port page_said page form x s t same also begins r is line
     report =
     record {
       moves = r.moves;
-      told = Appends-front u v w (places_text port page) (report_in form (day_book opens r.moves))
+      told = Appends-front u v w (places_text port page) (report_in form (day_book g opens r.moves))
           (subst (λ (o : Option ℕ). Appends u v (places_text port o)) also
-          (subst (λ (n : ℕ). Appends u v (places_text n page_said)) same line))
+          (subst (λ (n : Option ℕ). Appends u v (places_text n page_said)) same line))
           (subst (λ (y : Book). AppendsFront v w (report_in form y))
-          (reached_book opens x s t begins r is) report);
+          (reached_book g opens x s t begins r is) report);
     }
 
 -- a front of the lines
-pub tells_station_line : (opens : Book) (u v : Option (List ℕ)) (said port : ℕ)
+pub tells_station_line : (g : GateState) (opens : Book) (u v : Option (List ℕ)) (said port : Option ℕ)
     (page_said page : Option ℕ) (form : ReportForm)
     → said ≡ port → page_said ≡ page → AppendsFront u v (places_text said page_said)
-    → TellsFront opens port page form u v
-tells_station_line opens u v said port page_said page form same also line = record {
+    → TellsFront g opens port page form u v
+tells_station_line g opens u v said port page_said page form same also line = record {
   moves = [];
-  told = AppendsFront-longer u v (places_text port page) (report_in form (day_book opens []))
+  told = AppendsFront-longer u v (places_text port page) (report_in form (day_book g opens []))
       (subst (λ (o : Option ℕ). AppendsFront u v (places_text port o)) also
-      (subst (λ (n : ℕ). AppendsFront u v (places_text n page_said)) same line));
+      (subst (λ (n : Option ℕ). AppendsFront u v (places_text n page_said)) same line));
 }

@@ -11,23 +11,24 @@ use Rattle.day_base.specs.declared.fault.DayFault.{DayFault}
 use Rattle.day_base.specs.declared.fault.DayFault.TheVariants.{NoConnection, NoMemory, Write}
 use Rattle.day_base.specs.declared.plan.ReportForm.{ReportForm}
 use Rattle.day_base.specs.Texts.{places_text, report_in}
+use Rattle.station.specs.Gates.{GateState}
 use Rattle.station.specs.Moves.{StationState}
 use Rattle.station.specs.Reads.{HasNoPeer}
 use Rattle.station.specs.Runs.{Move, after, opening_station}
 use Rattle.peer_connections.specs.Reaches.{FindRoom}
 
--- the station after these moves, of a day that opens at this book
-abbrev pub day_station : Book → List Move → StationState
-day_station opens moves = after moves (opening_station opens)
+-- the station after these moves, of a day that opens with these gates at this book
+abbrev pub day_station : GateState → Book → List Move → StationState
+day_station gates opens moves = after moves (opening_station gates opens)
 
 -- its book
-abbrev pub day_book : Book → List Move → Book
-day_book opens moves = (day_station opens moves).book
+abbrev pub day_book : GateState → Book → List Move → Book
+day_book gates opens moves = (day_station gates opens moves).book
 
 -- where it listens, and the report of the book that the day's moves led to
-abbrev pub station_text : Book → ℕ → Option ℕ → ReportForm → List Move → List ℕ
-station_text opens port page form moves =
-    places_text port page ++ report_in form (day_book opens moves)
+abbrev pub station_text : GateState → Book → Option ℕ → Option ℕ → ReportForm → List Move → List ℕ
+station_text gates opens port page form moves =
+    places_text port page ++ report_in form (day_book gates opens moves)
 
 -- how a day ends whose server ends so
 abbrev pub ended_by : ServerFault → DayFault
@@ -37,16 +38,16 @@ ended_by servers.NotStored = Write writes.Failed
 
 -- the whole text of a day was written, in which each read of a peer found room, and at whose end
 -- nobody is there, and no till is signed on
-pub record TellsDay (opens : Book) (port : ℕ) (page : Option ℕ) (form : ReportForm)
+pub record TellsDay (gates : GateState) (opens : Book) (port page : Option ℕ) (form : ReportForm)
     (holds holds' : Option (List ℕ)) : Type 0 where
   pub moves : List Move
-  pub room : FindRoom moves (opening_station opens)
-  pub left : HasNoPeer (day_station opens moves)
-  pub off : (t : ℕ) → is_signed_on (site_of_book (day_book opens moves)) t ≡ false
-  pub told : Appends holds holds' (station_text opens port page form moves)
+  pub room : FindRoom moves (opening_station gates opens)
+  pub left : HasNoPeer (day_station gates opens moves)
+  pub off : (t : ℕ) → is_signed_on (site_of_book (day_book gates opens moves)) t ≡ false
+  pub told : Appends holds holds' (station_text gates opens port page form moves)
 
 -- a front of the text of a day was written
-pub record TellsFront (opens : Book) (port : ℕ) (page : Option ℕ) (form : ReportForm)
+pub record TellsFront (gates : GateState) (opens : Book) (port page : Option ℕ) (form : ReportForm)
     (holds holds' : Option (List ℕ)) : Type 0 where
   pub moves : List Move
-  pub told : AppendsFront holds holds' (station_text opens port page form moves)
+  pub told : AppendsFront holds holds' (station_text gates opens port page form moves)

@@ -40,13 +40,14 @@ pub fn station_day<W: Write, T: Wait, R: Clock + Eprint, D: Disk>(
     writer: &mut Counted<W>,
 ) -> Result<(), DayFault>
     requires alone { connections.old.stored.station
-        ≡ opening_station connections.old.stored.station.book }
+        ≡ opening_station connections.old.stored.station.gates
+        connections.old.stored.station.book }
     requires off { HasNobodyOn connections.old.stored.station.book }
-    ensures told { OnOk result (TellsDay connections.old.stored.station.book server.old.port
-        server.old.page_port form (W.contents (device_of writer.old))
+    ensures told { OnOk result (TellsDay connections.old.stored.station.gates
+        connections.old.stored.station.book server.old.port server.old.page_port form (W.contents (device_of writer.old))
         (W.contents (device_of writer.new))) }
-    ensures front { TellsFront connections.old.stored.station.book server.old.port
-        server.old.page_port form (W.contents (device_of writer.old))
+    ensures front { TellsFront connections.old.stored.station.gates
+        connections.old.stored.station.book server.old.port server.old.page_port form (W.contents (device_of writer.old))
         (W.contents (device_of writer.new)) }
 {
     put_places(alloc, server.port(), server.page_port(), writer, turns)?;

@@ -5,5 +5,7 @@ returns c s has =
     let one = c.in_ok-command.ensures _ _ has c.option.ensures.rule in
     let two = c.in_ok-command-2.ensures _ _ one c.option-2.ensures.rule in
     let three = c.in_ok-command-3.ensures _ _ two c.option-3.ensures.rule in
-    let four = c.in_ok-command-4.ensures _ _ three c.flag.ensures.rule in
-    c.add_argument-5.ensures _ _ four c.flag-2.ensures.rule
+    let four = c.in_ok-command-4.ensures _ _ three c.option-4.ensures.rule in
+    let five = c.in_ok-command-5.ensures _ four in
+    let six = c.in_ok-command-6.ensures _ _ five c.flag.ensures.rule in
+    c.add_argument-6.ensures _ _ six c.flag-2.ensures.rule

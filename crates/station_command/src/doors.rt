@@ -1,0 +1,216 @@
+//! The doors of a station: which nodes have one, and the sockets at which it listens there.
+
+ghost use Rattle.program_io.specs.Statuses.{IsFailed};
+ghost use Rattle.std.specs.Prelude.{IfErr};
+
+use device_map::{dispenser, till};
+use mio::net::{UnixListener, UnixStream};
+use program_io::{FAULT, exit_no_memory, exit_with};
+use site_base::{FpNo, NoMemory, TillNo};
+use station::Gates;
+use station_server::Doors;
+use std::alloc::AllocError;
+use std::io::ErrorKind;
+use std::net::Net;
+use std::process::ExitCode;
+use std::rt::Files;
+use std::{fs, io};
+
+/// The doors of a station, and who may speak at each.
+#[derive(Drop)]
+pub struct OpenDoors {
+    pub doors: Doors,
+    pub gates: Gates,
+}
+
+/// Why a door isn't opened. The text is the name of its folder.
+#[derive(Drop)]
+enum DoorFault {
+    NoMemory,
+    /// The folder of the doors can't be listed.
+    Unread,
+    /// No node has this name.
+    NoNode(String),
+    /// Somebody answers at its socket.
+    InUse(String),
+    /// It can't be listened at.
+    Deaf(String),
+}
+
+impl From<AllocError> for DoorFault {
+    fn from(_e: AllocError) -> DoorFault {
+        DoorFault::NoMemory
+    }
+}
+
+impl From<NoMemory> for DoorFault {
+    fn from(_e: NoMemory) -> DoorFault {
+        DoorFault::NoMemory
+    }
+}
+
+/// What is in the way of listening at a socket.
+#[derive(Clone, Copy, Debug, PartialEq, Eq)]
+enum SocketFault {
+    InUse,
+    Deaf,
+}
+
+/// Listens at the doors of this folder, if there is one, or says why not, and how the program ends:
+/// at the socket of each subfolder that has the name of a node.
+pub fn open_doors<R: Files + Net + Eprint + AllocGlobal>(
+    rt: &R,
+    folder: Option<&str>,
+) -> Result<OpenDoors, ExitCode>
+    ensures { IfErr result IsFailed }
+{
+    let mut open = OpenDoors {
+        doors: Doors::new(rt.alloc()),
+        gates: Gates::new(rt.alloc()),
+    };
+    let Some(folder) = folder else {
+        return Ok(open);
+    };
+    match open_each(rt, folder, &mut open) {
+        Ok(()) => Ok(open),
+        Err(fault) => Err(exit_door(rt, folder, &fault)),
+    }
+}
+
+/// Opens each door of a folder, once each has the name of a node.
+fn open_each<R: Files + Net + AllocGlobal>(
+    rt: &R,
+    folder: &str,
+    open: &mut OpenDoors,
+) -> Result<(), DoorFault> {
+    let mut names = list_folders(rt, folder)?;
+    names.sort()?;
+    check_names(&names)?;
+    for name in names {
+        open_door(rt, folder, name, open)?;
+    }
+    Ok(())
+}
+
+/// The names of the folders in a folder, in any order. One whose name isn't text is no node's.
+fn list_folders<R: Files + AllocGlobal>(rt: &R, folder: &str) -> Result<Vec<String>, DoorFault> {
+    let entries = fs::read_dir(&rt, folder).map_err(|_| DoorFault::Unread)?;
+    let mut names = Vec::new(rt.alloc());
+    for entry in entries {
+        let entry = entry.map_err(|_| DoorFault::Unread)?;
+        let name = entry.file_name().to_string(rt.alloc())?;
+        match fs::metadata(rt, entry.path()) {
+            Ok(found) if !found.is_dir() => {}
+            Ok(_) => names.push(name).map_err(|_| DoorFault::NoMemory)?,
+            Err(_) => return Err(DoorFault::Deaf(name)),
+        }
+    }
+    Ok(names)
+}
+
+/// The first of these names that is no node's is a fault.
+fn check_names(names: &[String]) -> Result<(), DoorFault> {
+    for name in names {
+        if node_named(name.as_str()).is_none() {
+            return Err(DoorFault::NoNode(name.clone()?));
+        }
+    }
+    Ok(())
+}
+
+/// Listens at the door of this name, and lets its node speak there alone.
+fn open_door<R: Files + Net + AllocGlobal>(
+    rt: &R,
+    folder: &str,
+    name: String,
+    open: &mut OpenDoors,
+) -> Result<(), DoorFault> {
+    let Some(node) = node_named(name.as_str()) else {
+        return Err(DoorFault::NoNode(name));
+    };
+    let path = format!(in rt.alloc(); "{folder}/{name}/socket")?;
+    match listen_at(rt, path.as_str()) {
+        Ok(listener) => {
+            let _ = open.gates.add_door(node)?;
+            open.doors.add(listener)?;
+            Ok(())
+        }
+        Err(SocketFault::InUse) => Err(DoorFault::InUse(name)),
+        Err(SocketFault::Deaf) => Err(DoorFault::Deaf(name)),
+    }
+}
+
+/// The node of the door of this name: `till-01` to `till-32`, `dispenser-01` to `dispenser-64`.
+fn node_named(name: &str) -> Option<[u8; 2]> {
+    let (kind, word) = name.split_once('-')?;
+    let number = two_digits(word)?;
+    match kind {
+        "till" => Some(till(TillNo::new(number)?)),
+        "dispenser" => Some(dispenser(FpNo::new(number)?)),
+        _ => None,
+    }
+}
+
+/// The number that a word of two digits tells.
+fn two_digits(word: &str) -> Option<u8> {
+    let digits = word.as_bytes();
+    if digits.len() != 2 || !digits[0].is_ascii_digit() || !digits[1].is_ascii_digit() {
+        return None;
+    }
+    Some(10 * (digits[0] - b'0') + (digits[1] - b'0'))
+}
+
+/// Listens at a Unix socket. One that an earlier run left is replaced.
+fn listen_at<R: Files + Net>(rt: &R, path: &str) -> Result<UnixListener, SocketFault> {
+    match UnixListener::bind(rt, path) {
+        Ok(listener) => Ok(listener),
+        Err(error) if error.kind() == ErrorKind::AddrInUse => replace_socket(rt, path),
+        Err(_) => Err(SocketFault::Deaf),
+    }
+}
+
+/// Listens at a socket in the place of one at which nobody answers.
+fn replace_socket<R: Files + Net>(rt: &R, path: &str) -> Result<UnixListener, SocketFault> {
+    if !is_socket(rt, path) {
+        return Err(SocketFault::Deaf);
+    }
+    match UnixStream::connect(rt, path) {
+        Ok(_) => return Err(SocketFault::InUse),
+        Err(error) => match error.kind() {
+            ErrorKind::ConnectionRefused => {}
+            ErrorKind::WouldBlock => return Err(SocketFault::InUse),
+            _ => return Err(SocketFault::Deaf),
+        },
+    }
+    match bind_anew(rt, path) {
+        Ok(listener) => Ok(listener),
+        Err(_) => Err(SocketFault::Deaf),
+    }
+}
+
+/// Removes what has this name, and listens there.
+fn bind_anew<R: Files + Net>(rt: &R, path: &str) -> io::Result<UnixListener> {
+    fs::remove_file(rt, path)?;
+    UnixListener::bind(rt, path)
+}
+
+/// Is what has this name neither a file, nor a folder, nor a link?
+fn is_socket<R: Files>(rt: &R, path: &str) -> bool {
+    match fs::symlink_metadata(rt, path) {
+        Ok(found) => !found.is_file() && !found.is_dir() && !found.is_symlink(),
+        Err(_) => false,
+    }
+}
+
+/// Says why a door of this folder isn't opened.
+fn exit_door(rt: &impl Eprint, folder: &str, fault: &DoorFault) -> ExitCode
+    ensures { IsFailed result }
+{
+    match fault {
+        DoorFault::NoMemory => exit_no_memory(rt),
+        DoorFault::Unread => exit_with(eprintln!(rt; "cannot read {folder}"), FAULT),
+        DoorFault::NoNode(name) => exit_with(eprintln!(rt; "door {name}: no node"), FAULT),
+        DoorFault::InUse(name) => exit_with(eprintln!(rt; "door {name}: in use"), FAULT),
+        DoorFault::Deaf(name) => exit_with(eprintln!(rt; "door {name}: cannot listen"), FAULT),
+    }
+}

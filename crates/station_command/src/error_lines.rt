@@ -1,0 +1,220 @@
+//! Lines for standard error that a thread of their own writes: the station doesn't wait for whoever
+//! reads them.
+
+use crate::line_tally::LineTally;
+use day_base::DayFault;
+use std::alloc::Global;
+use std::cell::Cell;
+use std::fmt::Display;
+use std::io::{ErrorKind, Read, Write};
+use std::net::{Net, Shutdown};
+use std::os::fd::AsRawFd;
+use std::os::unix::net::UnixStream;
+use std::thread::{JoinHandle, Threads};
+use std::time::{Clock, Duration, Instant};
+use std::{io, thread};
+
+/// The number of standard error, the last one of the system's own.
+const LAST_STANDARD: i32 = 2;
+
+/// So many octets of lines are taken at once.
+const LINE_OCTETS: usize = 4_096;
+
+/// A line that is interrupted is passed on again, so often at most.
+const TURNS_A_LINE: usize = 4;
+
+/// The last lines are waited for so many seconds, where nobody reads them.
+const LAST_LINE_SECONDS: u64 = 1;
+
+/// Lines are passed to a thread that writes them. One that finds no room, since nobody reads them,
+/// is left out and counted.
+#[derive(Drop)]
+pub struct ErrorLines {
+    alloc: Global,
+    stream: UnixStream,
+    left_out: Cell<u64>,
+    thread: JoinHandle<()>,
+}
+
+impl ErrorLines {
+    /// Starts the thread, which writes to this output.
+    pub fn start<N: Net, T: Threads, E: Eprint + Clock + Send + Drop + 'static>(
+        net: &N,
+        threads: &T,
+        alloc: Global,
+        output: E,
+    ) -> Result<ErrorLines, DayFault> {
+        let Ok((stream, lines)) = open_pair(net) else {
+            return Err(DayFault::NoConnection);
+        };
+        if stream.set_nonblocking(true).is_err() {
+            return Err(DayFault::NoConnection);
+        }
+        match thread::spawn(threads, move || write_lines(alloc, &output, lines)) {
+            Ok(thread) => Ok(ErrorLines {
+                alloc,
+                stream,
+                left_out: Cell::new(0),
+                thread,
+            }),
+            Err(_) => Err(DayFault::NoWorker),
+        }
+    }
+
+    /// Waits until the last lines are written, but not long where nobody reads them.
+    pub fn end<T: Threads>(self, threads: &T) {
+        let _ = self.pass_left_out();
+        let ErrorLines {
+            mut stream,
+            thread,
+            ..
+        } = self;
+        let _ = stream.shutdown(Shutdown::Write);
+        let seconds = Duration::from_secs(LAST_LINE_SECONDS);
+        let is_waiting = stream.set_nonblocking(false).is_ok()
+            && stream.set_read_timeout(Some(seconds)).is_ok();
+        let mut piece = [0; 1];
+        if is_waiting && matches!(stream.read(&mut piece), Ok(0)) {
+            thread.join(threads);
+        }
+    }
+
+    /// Passes a text on to the thread, if it has room for it.
+    fn pass(&self, text: &str) -> io::Result<()> {
+        for _ in 0..TURNS_A_LINE {
+            match (&self.stream).write(text.as_bytes()) {
+                Ok(_) => return Ok(()),
+                Err(error) if error.kind() == ErrorKind::Interrupted => {}
+                Err(error) => return Err(error),
+            }
+        }
+        Err(ErrorKind::Interrupted.into())
+    }
+
+    /// Says how many lines were left out, if some were.
+    fn pass_left_out(&self) -> io::Result<()> {
+        let count = self.left_out.get();
+        if count == 0 {
+            return Ok(());
+        }
+        let text = format!(in self.alloc; "{count} lines were left out: nobody read them\n")?;
+        self.pass(text.as_str())?;
+        self.left_out.set(0);
+        Ok(())
+    }
+
+    /// Passes a line on, behind how many were left out.
+    fn pass_line<D: Display + Drop>(&self, line: D) -> io::Result<()> {
+        let text = format!(in self.alloc; "{line}\n")?;
+        self.pass_left_out()?;
+        self.pass(text.as_str())
+    }
+}
+
+impl Eprint for ErrorLines {
+    fn eprint<D: Display + Drop>(&self, value: D) -> io::Result<()> {
+        self.eprintln(value)
+    }
+
+    fn eprintln<D: Display + Drop>(&self, value: D) -> io::Result<()> {
+        let passed = self.pass_line(value);
+        if passed.is_err() {
+            self.left_out.set(self.left_out.get().saturating_add(1));
+        }
+        passed
+    }
+}
+
+/// The clock of a host, and lines that a thread of their own writes.
+#[derive(Drop)]
+pub struct Reporting<'a, R> {
+    pub host: &'a R,
+    pub lines: &'a ErrorLines,
+}
+
+impl<R: Clock> Clock for Reporting<'_, R> {
+    fn monotonic(&self) -> io::Result<Duration> {
+        self.host.monotonic()
+    }
+
+    fn since_1970(&self) -> io::Result<Duration> {
+        self.host.since_1970()
+    }
+}
+
+impl<R> Eprint for Reporting<'_, R> {
+    fn eprint<D: Display + Drop>(&self, value: D) -> io::Result<()> {
+        self.lines.eprint(value)
+    }
+
+    fn eprintln<D: Display + Drop>(&self, value: D) -> io::Result<()> {
+        self.lines.eprintln(value)
+    }
+}
+
+/// Two sockets, each the other's peer. Where standard input, output or error is closed, its number
+/// stays free: what is written there must not come to the lines.
+fn open_pair<N: Net>(net: &N) -> io::Result<(UnixStream, UnixStream)> {
+    let first = UnixStream::pair(net)?;
+    if is_apart(&first.0, &first.1) {
+        return Ok(first);
+    }
+    let second = UnixStream::pair(net)?;
+    if is_apart(&second.0, &second.1) {
+        return Ok(second);
+    }
+    // The first two have each of the three numbers that is free.
+    UnixStream::pair(net)
+}
+
+/// Has neither of these sockets a number of standard input, output or error?
+fn is_apart(one: &UnixStream, other: &UnixStream) -> bool {
+    one.as_raw_fd() > LAST_STANDARD && other.as_raw_fd() > LAST_STANDARD
+}
+
+/// Writes the lines that come, until no more do.
+fn write_lines<E: Eprint + Clock>(alloc: Global, output: &E, stream: UnixStream) {
+    let mut stream = stream;
+    let mut tally = LineTally::new(alloc);
+    let mut pending = Vec::new(alloc);
+    let mut piece = [0; LINE_OCTETS];
+    for _ in 0..u64::MAX {
+        match stream.read(&mut piece) {
+            Ok(0) => break,
+            Ok(n) => {
+                let _ = pending.extend_from_slice(&piece[..n]);
+                take_lines(output, &mut tally, &mut pending);
+            }
+            Err(error) if error.kind() == ErrorKind::Interrupted => {}
+            Err(_) => tally.end_second(output),
+        }
+        // Where some were left out, that is said at the second's end, though no more come.
+        let timeout = tally.has_more().then(|| Duration::from_secs(1));
+        let _ = stream.set_read_timeout(timeout);
+    }
+    tally.end_second(output);
+}
+
+/// Writes the whole lines of what came.
+fn take_lines<E: Eprint + Clock>(output: &E, tally: &mut LineTally, pending: &mut Vec<u8>) {
+    let mut begin = 0;
+    for at in 0..pending.len() {
+        if pending[at] == b'\n' {
+            if let Some(line) = line_in(pending, begin, at) {
+                tally.write(output, line, Instant::now(output).ok());
+            }
+            begin = at + 1;
+        }
+    }
+    if begin <= pending.len() {
+        pending.drain(..begin);
+    }
+}
+
+/// The text between these places, if it is one.
+fn line_in(octets: &[u8], begin: usize, end: usize) -> Option<&str> {
+    match str::from_utf8(octets.get(begin..end)?) {
+        Ok(line) => Some(line),
+        Err(_) => None,
+    }
+}
