@@ -1,74 +1,106 @@
 #!/usr/bin/env python3
 """A till: examples/till.py PORT TILL POINT
+        examples/till.py --door PATH TILL POINT
 
-Signs on at a site that serves on this port of 127.0.0.1, opens and releases the fuelling point,
-which has to be closed, looks at it until its fuelling is over, and locks, clears and reads the
-sale. docs/PROFILE.md has every identifier."""
-import socket
+Signs on at a site, at this port of 127.0.0.1 or at this door, opens the fuelling point if it is
+closed, releases it, looks at it until its fuelling is over, and locks, clears and reads the sale.
+If the station is started again meanwhile, it connects and signs on again, and goes on. It can be
+run as often as there is something to sell. docs/PROFILE.md has every identifier."""
 import sys
 import time
 
-READ, WRITE = 0, 2
+from talk import RESULT, Gone, Talk, explain, take_address
+
+READ, WRITE, TILL = 0, 2, 2
+SITE = bytes([1])
 SIGN_ON, OPEN, RELEASE, LOCK, CLEAR = 0x31, 0x3C, 0x3E, 0x80, 0x82
-RESULT, STATE, VOLUME, CENTS, STATUS = 0x01, 0x10, 0x73, 0x75, 0x78
-IDLE, PAYABLE, OPEN_SHIFT = 3, 2, 0x21
+STATE, VOLUME, CENTS, STATUS = 0x10, 0x73, 0x75, 0x78
+INOPERATIVE, CLOSED, IDLE, CALLING = range(1, 5)
+CLEARED, PAYABLE = 1, 2
+OPEN_SHIFT = 0x21
 
 
 class Till:
-    def __init__(self, port, number):
-        self.site = socket.create_connection(("127.0.0.1", port))
-        self.replies = self.site.makefile("rb")
-        self.node = bytes([2, number])
-        self.token = 0
+    def __init__(self, address, number):
+        self.talk = Talk(address, [TILL, number])
+        self.sign_on()
 
-    def ask(self, kind, address, *items):
-        """Sends a message, and answers the items of its reply: their numbers by identifier."""
-        self.token = (self.token + 1) % 32
-        body = bytes([len(address)]) + address + b"".join(bytes([item, 0]) for item in items)
-        head = bytes([1, 1]) + self.node + bytes([0, kind << 5 | self.token])
-        self.site.sendall(head + len(body).to_bytes(2, "big") + body)
-        head = self.replies.read(8)
-        body = self.replies.read(int.from_bytes(head[6:], "big"))
-        if len(head) < 8 or not body:
-            sys.exit("the site has closed the connection")
-        rest, told = body[1 + body[0] :], {}
-        while rest:
-            told[rest[0]] = int.from_bytes(rest[2 : 2 + rest[1]], "big")
-            rest = rest[2 + rest[1] :]
-        return told
+    def sign_on(self):
+        """Signs on. If another connection has signed the till on, that one has to end first."""
+        self.command(SITE, SIGN_ON)
+
+    def ask(self, kind, address, *commands):
+        """Sends a message, and returns the items of its reply: their octets by identifier. If the
+        connection ends it comes again; the site may have heard the message, so a command isn't
+        sent twice."""
+        try:
+            self.talk.send(kind, address, *((item, b"") for item in commands))
+            return self.talk.read_message()[1]
+        except Gone:
+            self.talk.reconnect()
+            self.sign_on()
+            return self.ask(kind, address) if kind == READ else {}
+
+    def read(self, address):
+        """The numbers of a view by identifier; none where there is nothing at this address."""
+        view = self.ask(READ, address)
+        return {} if RESULT in view else {
+            item: int.from_bytes(text, "big") for item, text in view.items()
+        }  # fmt: skip
 
     def command(self, address, command):
-        refusal = self.ask(WRITE, address, command)[RESULT]
-        if refusal != 0:
-            sys.exit(f"command {command:02X} is refused: forecourt explain {refusal}")
+        """Asks for something once. False if the connection ended before there was a reply."""
+        told = self.ask(WRITE, address, command)
+        if told and told[RESULT][0] != 0:
+            sys.exit(f"command {command:02X} is refused: {explain(told)}")
+        return bool(told)
 
 
-def first_sale(till, pump):
-    """The address of the point's first payable transaction, or of the one that isn't there yet."""
-    for number in range(1, 10000):
+def release(till, pump):
+    """Opens the point if it is closed, and releases it. What was asked for while the connection
+    ended is looked up."""
+    while (state := till.read(pump).get(STATE)) in (CLOSED, IDLE, CALLING):
+        if state == CLOSED:
+            till.command(pump, OPEN)
+        elif till.command(pump, RELEASE):
+            return
+    if state is None or state == INOPERATIVE:
+        sys.exit("the point isn't there, or its dispenser isn't reached")
+
+
+def find_sale(till, pump):
+    """The address of the point's first payable transaction of the open shift."""
+    for number in range(1, 10_000):
         sale = pump + bytes([OPEN_SHIFT]) + bytes.fromhex(f"{number:04d}")
-        if till.ask(READ, sale).get(STATUS, PAYABLE) == PAYABLE:
+        view = till.read(sale)
+        if not view:
+            sys.exit("the fuelling has ended without a sale")
+        if view[STATUS] == PAYABLE:
             return sale
 
 
-def main(port, number, point):
-    till, site, pump = Till(port, number), bytes([1]), bytes([0x20 + point])
-    till.command(site, SIGN_ON)
-    till.command(pump, OPEN)
-    till.command(pump, RELEASE)
+def clear(till, sale):
+    """Locks and clears the sale. A sign-off unlocks it, so both are asked for again where the
+    connection ended between the two."""
+    while till.read(sale)[STATUS] != CLEARED:
+        if till.command(sale, LOCK):
+            till.command(sale, CLEAR)
+
+
+def main(address, number, point):
+    till, pump = Till(address, number), bytes([0x20 + point])
+    release(till, pump)
     print(f"point {point} is released", flush=True)
-    while till.ask(READ, pump).get(STATE) not in (IDLE, None):
+    while till.read(pump).get(STATE) not in (INOPERATIVE, CLOSED, IDLE):
         time.sleep(0.05)
-    sale = first_sale(till, pump)
-    till.command(sale, LOCK)
-    till.command(sale, CLEAR)
-    view = till.ask(READ, sale)
+    sale = find_sale(till, pump)
+    clear(till, sale)
+    view = till.read(sale)
     print(f"cleared {view[VOLUME]} ml for {view[CENTS]} cents")
 
 
-if len(sys.argv) != 4:
-    sys.exit(__doc__)
-try:
-    main(*map(int, sys.argv[1:]))
-except ConnectionRefusedError:
-    sys.exit(f"nothing serves on port {sys.argv[1]}")
+if __name__ == "__main__":
+    found = take_address(sys.argv[1:])
+    if not found or len(found[1]) != 2 or not all(word.isdecimal() for word in found[1]):
+        sys.exit(__doc__)
+    main(found[0], *map(int, found[1]))
