@@ -18,6 +18,7 @@ from shared.checks import Failed, expect
 from shared.station import connect, read_point, receive_all
 
 UNKEPT = "nothing is kept\n"  # what a station without a history says on standard error
+DOORS_LINE = "listening at doors\n"  # of a station that listens on no port
 WAIT = 60  # seconds, for what comes at once if all is well
 LOOK = 0.01  # seconds between two looks at what is waited for
 LOOKS = 10  # at what stays the same, so that it will stay so
@@ -135,10 +136,13 @@ def read_found(line):
 
 
 @contextlib.contextmanager
-def start_day(command, **how):
+def start_day(command, rate=0, **how):
     """A program that says where it listens, with a history what it found of it, and is gone after
-    the block."""
+    the block. A station hears as much of a session as comes; with None, as much as it does where
+    nothing is said of that."""
     pipe, found = subprocess.PIPE, None
+    if command[1] == "station" and rate is not None:
+        command = [*command, "--rate", str(rate)]
     has_history = "--history" in command
     process = subprocess.Popen(command, stdout=pipe, stderr=pipe, bufsize=0, **how)
     try:
@@ -146,12 +150,14 @@ def start_day(command, **how):
         if has_history:
             found = read_found(line)
             line = process.stdout.readline().decode() if found else line
-        if not line.startswith("listening 127.0.0.1:") or not line.endswith("\n"):
+        is_at_doors = line == DOORS_LINE
+        if not is_at_doors and not re.fullmatch(r"listening 127\.0\.0\.1:\d+\n", line):
             raise Failed(
                 f"the first line is '{line}', standard error '{process.stderr.read().decode()}'"
             )
         is_unkept = command[1] == "station" and not has_history
-        yield Day(process, int(line.split(":")[1]), found, is_unkept)
+        port = None if is_at_doors else int(line.split(":")[1])
+        yield Day(process, port, found, is_unkept)
     finally:
         if process.poll() is None:
             process.kill()

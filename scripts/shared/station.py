@@ -181,6 +181,14 @@ def connect(port):
     return peer
 
 
+def connect_at(door):
+    """A connection to a server at a door: at the socket in this folder."""
+    peer = socket.socket(socket.AF_UNIX)
+    peer.settimeout(PATIENCE)
+    peer.connect(str(door / "socket"))
+    return peer
+
+
 def receive(peer, length):
     """So many octets, or as many as come before the connection ends."""
     octets = b""

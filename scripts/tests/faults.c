@@ -10,6 +10,7 @@
  *   SHORT_JOURNAL_WRITE=M  such a write takes at most M octets
  *   FAIL_SYNC=K        the Kth fdatasync or fsync fails, and what came to its file behind the last
  *                      one is lost, as where the power fails
+ *   SLOW_SYNC=M        each fdatasync and fsync takes M milliseconds more
  *   STOP_AT_SYNC=K     at the Kth fdatasync the file system stops: what came to the file behind the
  *                      one before is lost, though the call says that all is well, and from then on
  *                      no file is given another length
@@ -274,6 +275,7 @@ static int fails_to_sync(int file)
 
 static int sync_by(long call, int file)
 {
+    usleep(1000 * number("SLOW_SYNC"));
     if (fails_to_sync(file))
         return -1;
     int done = syscall(call, file);

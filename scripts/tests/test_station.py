@@ -5,10 +5,13 @@ told is compared with octets that stand here, or with what a replay of the same 
 each day's report, its lines on standard error and its exit status are looked at, and what the
 program takes of processor and memory."""
 
+import collections
 import contextlib
+import fcntl
 import os
 import pathlib
 import pty
+import re
 import resource
 import select
 import signal
@@ -16,22 +19,25 @@ import socket
 import statistics
 import subprocess
 import sys
+import tempfile
 import threading
 import time
 
 from shared.checks import Failed, expect
 from shared.histories import is_read
-from shared.running import close_input, run
-from shared.serving import LOOK, UNKEPT, WAIT, read_status, send_reset, send_until, start_day
+from shared.running import close_input, compile_c, run
+from shared.serving import (
+    LOOK, UNKEPT, WAIT, list_addresses, read_status, send_reset, send_until, start_day, wait_until,
+)  # fmt: skip
 from shared.station import (
     ASSIGN, CLEAR, CLOSE, DISPENSER, EXAMPLES, FIVE_POINTS, FLOW, HANG_UP, KNOWN_SITE, LIFT, LOCK,
     NOTICE, OPEN, OUTCOME, PREPAY, RELEASE, REPORT, RESUME, SITE, SUSPEND, TERMINATE, TEST_RELEASE,
-    TILL, UNASSIGN, WRITE, address_point, command_point, command_sale, decode, encode, parse,
-    read_point, read_site, receive, receive_all, receive_message, report, sign_off, sign_on,
+    TILL, UNASSIGN, WRITE, address_point, command_point, command_sale, connect_at, decode, encode,
+    parse, read_point, read_site, receive, receive_all, receive_message, report, sign_off, sign_on,
     write_lines, write_report, write_site,
 )  # fmt: skip
 from tests.built import PROGRAM
-from tests.suite import make_folder, start_chance, test
+from tests.suite import make_folder, start_chance, test, test_beside
 
 HERE = make_folder()
 MOST_PEERS = 1_024
@@ -67,14 +73,21 @@ STEPS = 150  # requests of each till and its dispensers
 SOON = 10  # seconds, for a connection that is closed at once if all is well
 URGENT = 200  # times that a till sends urgent data
 TAKING = 60  # seconds that a till has which takes nothing, without --idle
-LEAVING = 10  # seconds more, for the sweep, and for a connection that closes
+LEAVING = 30  # seconds more, for the sweep, and for a connection that closes
+CLOSING = 5  # seconds that a peer has which doesn't hang up
+FIRST_MESSAGE = 10  # seconds that a peer has for its first message
+SLOW_OCTETS = 20_000  # that a slow till reads in a second
+SLOW_FLUSH = 1_200  # milliseconds of a flush
+USUAL_RATE = 1_000  # requests of a session in a second, where nothing is said of them
+REQUEST = 10  # octets of the shortest request
 QUIET_TICKS = 2  # hundredths of a second, of fifty
 MOST_TIMES = 5  # as long as without the others, besides two milliseconds
 SLOW = 0.02  # seconds: half of the replies come sooner, whatever else the station does
 
 
 def start_station(*words, site=KNOWN_SITE, port=0, given=None, **how):
-    command = [PROGRAM, "station", site, "--port", port, *words]
+    place = [] if port is None else ["--port", port]
+    command = [PROGRAM, "station", site, *place, *words]
     stdin = {"stdin": given if given is not None else -1}
     return start_day([*map(str, command)], **stdin, **how)
 
@@ -89,6 +102,22 @@ def end(day, told=""):
     day.process.stdin.close()
     day.process.stdin = None
     return day.report(told)
+
+
+def end_counted(day, counts):
+    """The report of a day whose standard input is closed, and that told these lines on standard
+    error, so often each. Of one text ten lines at most are written in a second; then how many more
+    came."""
+    day.process.stdin.close()
+    day.process.stdin = None
+    out, err = day.process.communicate(timeout=WAIT)
+    got = collections.Counter()
+    for line in err.decode().splitlines(keepends=True):
+        more = re.fullmatch(r"(\d+) more in a second: (.*\n)", line)
+        got[more[2] if more else line] += int(more[1]) if more else 1
+    expect("status and lines", (day.process.returncode, got - collections.Counter([UNKEPT])),
+           (0, collections.Counter(counts)))  # fmt: skip
+    return out.decode()
 
 
 def ask(peer, sent, wanted):
@@ -351,7 +380,41 @@ def an_octet_now_and_then():
             peer.close()
             day.wait_until_left(port)
         half = "session of a peer that said nothing: fault 44: the octets end inside a message\n"
-        expect("report", end(day, 100 * half), write_report(10 * ROWS_OF_FAST, 0))
+        expect("report", end_counted(day, {half: 100}), write_report(10 * ROWS_OF_FAST, 0))
+
+
+@test
+def many_lines_of_one_text():
+    """Of a text ten lines are written in a second, and then how many more came."""
+    half = "session of a peer that said nothing: fault 44: the octets end inside a message\n"
+    with start_station() as day:
+        for _ in range(300):
+            with day.connect() as peer:
+                peer.sendall(sign_on(1)[:7])
+        time.sleep(2)
+        told = os.read(day.process.stderr.fileno(), 65_536).decode()
+        lines = told.splitlines(keepends=True).count(half)
+        expect(f"{lines} lines of 300", 10 <= lines <= 30, True)
+        expect("the last line", " more in a second: " in told.splitlines()[-1], True)
+        got = lines + sum(map(int, re.findall(r"(\d+) more in a second: ", told)))
+        expect("lines in all", got, 300)
+        day.is_unkept = False  # that is read
+        end(day)
+
+
+@test
+def nobody_reads_standard_error():
+    """Where nobody reads standard error, and its pipe is full, the station goes on."""
+    with start_station() as day:
+        fcntl.fcntl(day.process.stderr, fcntl.F_SETPIPE_SZ, 4_096)
+        for number in range(6_000):
+            with day.connect() as peer:
+                origin = bytes([9, number % 250])
+                peer.sendall(b"\1\1" + origin + parse("00 03 00 02 01 23"))
+                receive_message(peer)
+                peer.sendall(b"\1")
+        expect_fast(day)
+        end(day, None)
 
 
 @test
@@ -442,24 +505,52 @@ def resets_in_mid_reply():
 
 @test
 def peers_above_the_most():
-    """1,024 that connect and say nothing; one more is closed at once. Where one is gone, another
-    is served."""
+    """1,024 connections, one of a till, the others of peers that say nothing, or half a message.
+    One more takes the place of the peer that has waited longest, and is served as fast as if
+    nobody else were there. The till that has spoken stays."""
     with start_station() as day, contextlib.ExitStack() as stack:
         before = expect_fast(day)
-        peers = [stack.enter_context(day.connect()) for _ in range(MOST_PEERS - 1)]
+        till = stack.enter_context(day.connect())
+        ask(till, sign_on(1), SIGNED_ON[1])
+        half = stack.enter_context(day.connect())
+        half.sendall(sign_on(3)[:5])
+        day.wait_until_read(half)
+        time.sleep(1.5)
+        peers = [stack.enter_context(day.connect()) for _ in range(MOST_PEERS - 2)]
+        more = stack.enter_context(day.connect())
+        ask(more, sign_on(2), SIGNED_ON[2])
+        expect("the peer that waited longest", is_closed(half), True)
         expect_as_fast(day, before)
-        peers.append(stack.enter_context(day.connect()))
-        ask(peers[-1], sign_on(1), SIGNED_ON[1])
-        with day.connect() as more:
-            expect("one more is closed", is_closed(more), True)
+        left = select.poll()
+        for peer in peers:
+            left.register(peer, select.POLLIN)
+        expect("peers that were left", len(left.poll(0)), 1)
         if read_status(day, "VmHWM") > FULL_KILOBYTES:
             raise Failed(f"{read_status(day, 'VmHWM')} kB")
-        port = peers[0].getsockname()[1]
-        peers[0].close()
-        day.wait_until_left(port)
-        expect_fast(day)
+        ask(till, sign_off(1), SIGNED_ON[1])
+        expect("report", end(day), write_report(2 * ROWS_OF_FAST + 4, 0))
+
+
+@test_beside
+def peers_that_say_nothing():
+    """A connection that brings no whole message for ten seconds is closed, and no line tells it.
+    One that has brought one stays, silent or not."""
+    with start_station() as day, day.connect() as till, day.connect() as silent:
+        begun = time.monotonic()
+        with day.connect() as half:
+            half.sendall(sign_on(3)[:-1])
+            ask(till, sign_on(1), SIGNED_ON[1])
+            for peer in (silent, half):
+                peer.settimeout(FIRST_MESSAGE + LEAVING)
+                with contextlib.suppress(ConnectionError):
+                    expect("closed", peer.recv(1), b"")
+                took = time.monotonic() - begun
+                is_in_time = FIRST_MESSAGE <= took < FIRST_MESSAGE + 3
+                expect(f"closed after {took:.1f} seconds", is_in_time, True)
+        time.sleep(2)
         expect_quiet_program(day)
-        expect("report", end(day), write_report(3 * ROWS_OF_FAST + 2, 0))
+        ask(till, sign_off(1), SIGNED_ON[1])
+        expect("report", end(day), write_report(2, 0))
 
 
 def read_told(day, wanted):
@@ -575,6 +666,229 @@ def a_till_that_takes_nothing():
             end(day, told)
 
 
+def send_until_full(day, peer, till=1):
+    """Sends a till's reads of a point until the buffers are full. Returns how many octets were
+    sent."""
+    whole, sent, looks = b"".join(read_point(till, n % 32, 3) for n in range(6_000)), 0, 0
+    peer.setblocking(False)
+    while looks < 10:
+        try:
+            sent += peer.send(whole[sent % len(whole) :])
+            looks = 0
+        except BlockingIOError:
+            time.sleep(0.05)
+            looks += 1
+    day.wait_until_full(peer)
+    peer.setblocking(True)
+    return sent
+
+
+def count_replies(sent):
+    """How many octets the replies to so many octets of a till's reads have."""
+    return sent // len(read_point(1, 1, 3)) * 38
+
+
+def take_waiting(peer):
+    """Reads all that has come. Returns how much."""
+    took = 0
+    while select.select([peer], [], [], 0.2)[0] and (piece := peer.recv(65_536)):
+        took += len(piece)
+    return took
+
+
+def take_slowly(peer, seconds):
+    """Reads so many octets a second as a slow till does. Returns how many."""
+    took, begun = 0, time.monotonic()
+    while (passed := time.monotonic() - begun) < seconds:
+        while took < passed * SLOW_OCTETS:
+            took += len(peer.recv(1_000))
+        time.sleep(0.01)
+    return took
+
+
+@test_beside
+def a_till_that_reads_slowly():
+    """A till that is megabytes behind and reads 20,000 octets a second isn't left after the seconds
+    of --idle in which the system didn't say that its connection takes more. It gets each of its
+    replies."""
+    with start_station("--idle", "6") as day, socket.socket() as slow:
+        slow.setsockopt(socket.SOL_SOCKET, socket.SO_RCVBUF, 16_384)
+        slow.connect(("127.0.0.1", day.port))
+        ask(slow, sign_on(1), SIGNED_ON[1])
+        wanted = count_replies(send_until_full(day, slow))
+        took = take_slowly(slow, 25)
+        slow.shutdown(socket.SHUT_WR)
+        got = took + len(receive_all(slow))
+        expect("octets of replies", got // 38 * 38, wanted)
+        end(day, None)  # it may have sent half of its last request
+
+
+@test_beside
+def a_stop_with_a_full_till():
+    """A station is stopped for more than a minute while the output of a till is full, which takes
+    all that has come meanwhile: its session goes on, and it gets each of its replies."""
+    with start_station() as day, day.connect() as till:
+        ask(till, sign_on(1), SIGNED_ON[1])
+        wanted = count_replies(send_until_full(day, till))
+        day.process.send_signal(signal.SIGSTOP)
+        took = take_waiting(till)
+        time.sleep(TAKING + 2)
+        day.process.send_signal(signal.SIGCONT)
+        till.shutdown(socket.SHUT_WR)
+        took += len(receive_all(till))
+        expect("octets of replies", took // 38 * 38, wanted)
+        end(day, None)  # it may have sent half of its last request
+
+
+@test_beside
+def a_stop_with_a_till_that_has_ended():
+    """A station is stopped for longer than it waits for a till whose octets have ended, and whose
+    connection takes no reply until then: the reply is sent before the connection is closed."""
+    with tempfile.TemporaryDirectory() as folder:
+        met = pathlib.Path(folder) / "met"
+        library = compile_c(HERE, "tests/faults.c", "-O1", "-shared", "-fPIC")
+        blocks = {"LD_PRELOAD": str(library), "BLOCK_SEND": "1", "MET": str(met)}
+        with start_station(env={**os.environ, **blocks}) as day, day.connect() as till:
+            till.sendall(sign_on(1))
+            till.shutdown(socket.SHUT_WR)
+            wait_until("a send that would block", met.exists)
+            time.sleep(0.3)  # until its session has ended
+            day.process.send_signal(signal.SIGSTOP)
+            time.sleep(CLOSING + 2)
+            met.unlink()
+            day.process.send_signal(signal.SIGCONT)
+            expect("the reply", receive_all(till), SIGNED_ON[1])
+            expect("report", end(day), write_report(2, 0))
+
+
+@test_beside
+def a_slow_disk():
+    """With --idle, where each flush takes more than a second, and a till asks for something in each
+    round: a peer that is silent is left. The till that speaks stays, though it is heard once in
+    more than a second."""
+    told = "session of t2: nothing came for 2 seconds\n"
+    library = compile_c(HERE, "tests/faults.c", "-O1", "-shared", "-fPIC")
+    slow = {**os.environ, "LD_PRELOAD": str(library), "SLOW_SYNC": str(SLOW_FLUSH)}
+    words = "--idle", "2", "--history", make_folder() / "slow"
+    with start_station(*words, env=slow) as day, day.connect() as till, day.connect() as silent:
+        ask(till, sign_on(1), SIGNED_ON[1])
+        ask(silent, sign_on(2), SIGNED_ON[2])
+        rounds, port = 0, silent.getsockname()[1]
+        while day.queues(port) is not None and rounds < 20:
+            ask(till, command_point(1, 2, 1, (OPEN, CLOSE)[rounds % 2]), DONE)
+            rounds += 1
+        expect(f"left after {rounds} rounds", 2 <= rounds < 16, True)
+        end(day, told)
+
+
+def change_until_behind(day, till, port):
+    """Changes a point until its dispenser, which never reads, is owed some 100,000 octets beside
+    what its connection holds."""
+    both, sent = command_point(1, 2, 1, SUSPEND) + command_point(1, 2, 1, RESUME), 0
+    while sent - day.queues(port)[0] < 100_000:
+        while sent - day.queues(port)[0] < 100_000:
+            ask(till, 500 * both, 1_000 * DONE)
+            sent += 1_000 * len(SUSPENDED)
+        time.sleep(3)  # the system may give the connection more room
+
+
+@test_beside
+def a_dispenser_behind_while_nobody_speaks():
+    """A dispenser that never reads, and is behind by notices alone, is left, though nobody speaks
+    any more."""
+    told = f"session of d1: nothing was taken for {TAKING} seconds\n"
+    with start_station() as day, day.connect() as till, socket.socket() as pump:
+        pump.setsockopt(socket.SOL_SOCKET, socket.SO_RCVBUF, 4_096)
+        pump.connect(("127.0.0.1", day.port))
+        ask(pump, say(1), refuse(1, 2))
+        ask(till, sign_on(1), SIGNED_ON[1])
+        ask(till, command_point(1, 2, 1, OPEN) + command_point(1, 2, 1, RELEASE), DONE + DONE)
+        with day.connect() as lifting:
+            ask(lifting, report(1, 3, LIFT, 0), LIFTED)
+        port = pump.getsockname()[1]
+        change_until_behind(day, till, port)
+        begun = time.monotonic()
+        while day.queues(port) is not None and time.monotonic() < begun + TAKING + LEAVING:
+            time.sleep(0.1)
+        took = time.monotonic() - begun
+        is_in_time = TAKING - 1 <= took < TAKING + LEAVING
+        expect(f"left after {took:.1f} seconds", is_in_time, True)
+        end(day, told)
+
+
+def expect_at_rate(peer, sent, wanted, rate):
+    """Octets that come at once are answered at this rate, but for a second's that are saved up.
+    Each is answered."""
+    begun = time.monotonic()
+    peer.sendall(sent)
+    expect("each reply", receive(peer, len(wanted)), wanted)
+    took = time.monotonic() - begun
+    least = len(sent) / (REQUEST * rate) - 1
+    is_at_rate = least - 0.2 <= took <= least + 3
+    expect(f"{took:.2f} seconds, not {least:.2f}", is_at_rate, True)
+
+
+@test_beside
+def a_rate():
+    """With --rate 50 a session that sends 200 requests at once is heard at 50 times ten octets a
+    second, and is answered each of them. It isn't silent meanwhile. Others are answered as if it
+    weren't there, and the program rests."""
+    asked = b"".join(read_point(1, n % 32, 3) for n in range(200))
+    wanted = replay(sign_on(1) + asked)[16:]
+    with start_station("--idle", "2", rate=50) as day, day.connect() as fast:
+        ask(fast, sign_on(1), SIGNED_ON[1])
+        time.sleep(0.2)
+        watch = threading.Thread(target=look_at_rest, args=(day, looks := []))
+        watch.start()
+        expect_at_rate(fast, asked, wanted, 50)
+        watch.join()
+        expect("another session, and the processor", looks, ["fast", "quiet"])
+        fast.sendall(2 * asked)
+        fast.shutdown(socket.SHUT_WR)
+        expect("those before its end", receive_all(fast), 2 * wanted)
+        expect("report", end(day), write_report(2 + ROWS_OF_FAST, 0))
+
+
+def look_at_rest(day, looks):
+    """Notes whether another session is answered fast, and whether the program rests."""
+    expect_few_fast(day)
+    looks.append("fast")
+    expect_quiet_program(day)
+    looks.append("quiet")
+
+
+def expect_few_fast(day):
+    """Each of a few replies to another till comes within a moment."""
+    with day.connect() as peer:
+        ask(peer, sign_on(31), SIGNED_ON[31])
+        for _ in range(10):
+            begun = time.monotonic()
+            peer.sendall(read_point(31, 1, 2))
+            expect("octets of a reply", len(receive(peer, 38)), 38)
+            expect("a moment", time.monotonic() - begun < 5 * SLOW, True)
+        ask(peer, sign_off(31), SIGNED_ON[31])
+
+
+@test_beside
+def the_usual_rate():
+    """Without --rate 1,000 times ten octets of a session are heard in a second. With --rate 0 as
+    many as come."""
+    asked = b"".join(read_point(1, n % 32, 3) for n in range(3_000))
+    wanted = replay(sign_on(1) + asked)[16:]
+    with start_station(rate=None) as day, day.connect() as peer:
+        ask(peer, sign_on(1), SIGNED_ON[1])
+        expect_at_rate(peer, asked, wanted, USUAL_RATE)
+        end(day)
+    with start_station(rate=0) as day, day.connect() as peer:
+        ask(peer, sign_on(1), SIGNED_ON[1])
+        begun = time.monotonic()
+        ask(peer, 10 * asked, 10 * wanted)
+        took = time.monotonic() - begun
+        least = len(asked) / REQUEST / USUAL_RATE
+        expect(f"{took:.2f} seconds, less than {least:.2f}", took < least, True)
+        end(day)
+
+
 @test
 def a_stop_longer_than_idle():
     """A station that the system stops for longer than --idle, and then goes on: whoever has sent
@@ -637,13 +951,123 @@ def resets_in_mid_message():
 
 @test
 def idle_with_a_hundred():
-    """A hundred peers that say nothing cost no processor time."""
+    """A hundred peers that say nothing more cost no processor time."""
     with start_station() as day, contextlib.ExitStack() as stack:
-        for _ in range(100):
-            stack.enter_context(day.connect())
+        for number in range(100):
+            peer = stack.enter_context(day.connect())
+            peer.sendall(read_point(1 + number % 30, 1, 2))
+            receive_message(peer)
         expect_fast(day)
+        time.sleep(2)  # the sweep that finds that nobody is waited for
         expect_quiet_program(day)
         end(day)
+
+
+# ---- doors
+
+CHANGED = parse("02 02 01 01 00 E2 00 05 01 01 01 01 39")  # a reply to till 2: another originator
+
+
+def make_doors(*names):
+    """A folder of doors, one for each of these nodes."""
+    doors = pathlib.Path(tempfile.mkdtemp(dir=HERE))
+    for name in names:
+        (doors / name).mkdir()
+    return doors
+
+
+@test
+def doors_without_a_port():
+    """A till and a dispenser speak through their doors, with no port: each request is answered, and
+    the dispenser is told of the point. The first message of another originator is answered 57,
+    and that session ends."""
+    doors = make_doors("till-01", "till-32", "dispenser-01", "dispenser-64")
+    told = "session of t2: it may not speak there\n"
+    with start_station("--doors", doors, port=None) as day:
+        with connect_at(doors / "till-01") as till, connect_at(doors / "dispenser-01") as pump:
+            ask(pump, say(1), refuse(1, 2))
+            ask(till, sign_on(1), SIGNED_ON[1])
+            ask(till, command_point(1, 2, 1, OPEN), DONE)
+            expect("a change", receive(pump, len(OPENED)), OPENED)
+            with connect_at(doors / "till-01") as other:
+                other.sendall(sign_on(2, 2))
+                expect("another originator", receive_all(other), CHANGED)
+            ask(till, sign_off(1), SIGNED_ON[1])
+        expect("addresses", list_addresses(day.process), [])
+        expect("report", end(day, told), write_report(4, 0))
+
+
+@test
+def doors_and_a_port():
+    """A node that has a door speaks through it alone: its first message on the port is answered 57,
+    and its session ends. Others speak on the port."""
+    doors = make_doors("till-02")
+    told = "session of t2: it may not speak there\n"
+    with start_station("--doors", doors) as day, day.connect() as other:
+        expect("at the port", day.ask(sign_on(2, 2)), CHANGED)
+        ask(other, sign_on(1), SIGNED_ON[1])
+        with connect_at(doors / "till-02") as till:
+            ask(till, sign_on(2), SIGNED_ON[2])
+            ask(till, sign_off(2), SIGNED_ON[2])
+        ask(other, sign_off(1), SIGNED_ON[1])
+        expect("report", end(day, told), write_report(4, 0))
+
+
+@test
+def places_of_doors():
+    """A door has four places, whatever happens on the port: with 1,024 connections there a till
+    comes through its door. A fifth session of a door is closed, which a line says; where one of the
+    four has left, another has its place."""
+    doors = make_doors("till-01", "till-02")
+    told = "a connection was closed: all places are taken\n"
+    with start_station("--doors", doors) as day, contextlib.ExitStack() as stack:
+        for _ in range(MOST_PEERS):
+            stack.enter_context(day.connect())
+        tills = [stack.enter_context(connect_at(doors / "till-01")) for _ in range(4)]
+        for till in tills:
+            till.sendall(read_point(1, 1, 3))
+            receive_message(till)
+        with connect_at(doors / "till-01") as fifth:
+            expect("the fifth is closed", is_closed(fifth), True)
+        other = stack.enter_context(connect_at(doors / "till-02"))
+        ask(other, sign_on(2), SIGNED_ON[2])
+        tills[0].close()
+        time.sleep(0.3)
+        again = stack.enter_context(connect_at(doors / "till-01"))
+        ask(again, sign_on(1), SIGNED_ON[1])
+        end(day, told)
+
+
+@test
+def faults_of_doors():
+    """A folder that is no node's, a socket at which somebody answers, what is no socket, and a
+    folder that isn't there end the start. A socket that an earlier run left is replaced."""
+    for name in ("kiosk", "till-1", "till-00", "till-33", "dispenser-65", "till-01x", "Till-01"):
+        doors = make_doors("till-02", name)
+        expect_no_start(doors, f"door {name}: no node\n")
+    doors = make_doors("till-01")
+    (doors / "a file").write_text("")
+    with start_station("--doors", doors, port=None) as day:
+        expect_no_start(doors, "door till-01: in use\n")
+        day.process.kill()
+    with start_station("--doors", doors, port=None) as day:
+        with connect_at(doors / "till-01") as till:
+            ask(till, sign_on(1), SIGNED_ON[1])
+        end(day)
+    doors = make_doors("dispenser-03")
+    (doors / "dispenser-03" / "socket").write_text("kept")
+    expect_no_start(doors, "door dispenser-03: cannot listen\n")
+    expect("the file", (doors / "dispenser-03" / "socket").read_text(), "kept")
+    expect_no_start(HERE / "no doors", f"cannot read {HERE / 'no doors'}\n")
+    for words in ([], ["--page", "0"]):
+        ended = run(PROGRAM, "station", KNOWN_SITE, *words, given=b"")
+        needed = "error: a station needs --port N or --doors FOLDER\n"
+        expect("no place", (ended.status, ended.out, ended.err), (2, b"", needed))
+
+
+def expect_no_start(doors, why):
+    ended = run(PROGRAM, "station", KNOWN_SITE, "--doors", doors, given=b"")
+    expect(f"{doors}", (ended.status, ended.out, ended.err), (1, b"", why))
 
 
 # ---- a whole station
@@ -943,6 +1367,7 @@ def closed_output():
 def mistaken_words():
     wrong = [[]] + [["--port", port] for port in ("65536", "-1", "+80", "x", "", "0x50", "1e3")]
     wrong += [["--port=0", f"--idle={idle}"] for idle in ("0", "86401", "-1", "+1", "x", "", "1.5")]
+    wrong += [["--port=0", f"--rate={rate}"] for rate in ("1000001", "-1", "+1", "x", "", "1.5")]
     wrong += [["--port=0", "--port=1"], ["--port=0", "--workers=1"], ["--port=0", "--detached=1"]]
     for words in wrong:
         for site in (KNOWN_SITE, "no_such_file"):
