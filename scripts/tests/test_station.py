@@ -746,7 +746,7 @@ def a_stop_with_a_till_that_has_ended():
     connection takes no reply until then: the reply is sent before the connection is closed."""
     with tempfile.TemporaryDirectory() as folder:
         met = pathlib.Path(folder) / "met"
-        library = compile_c(HERE, "tests/faults.c", "-O1", "-shared", "-fPIC")
+        library = compile_c(make_folder(), "tests/faults.c", "-O1", "-shared", "-fPIC")
         blocks = {"LD_PRELOAD": str(library), "BLOCK_SEND": "1", "MET": str(met)}
         with start_station(env={**os.environ, **blocks}) as day, day.connect() as till:
             till.sendall(sign_on(1))
@@ -767,7 +767,7 @@ def a_slow_disk():
     round: a peer that is silent is left. The till that speaks stays, though it is heard once in
     more than a second."""
     told = "session of t2: nothing came for 2 seconds\n"
-    library = compile_c(HERE, "tests/faults.c", "-O1", "-shared", "-fPIC")
+    library = compile_c(make_folder(), "tests/faults.c", "-O1", "-shared", "-fPIC")
     slow = {**os.environ, "LD_PRELOAD": str(library), "SLOW_SYNC": str(SLOW_FLUSH)}
     words = "--idle", "2", "--history", make_folder() / "slow"
     with start_station(*words, env=slow) as day, day.connect() as till, day.connect() as silent:
