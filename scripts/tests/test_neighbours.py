@@ -387,14 +387,14 @@ def silent_peers_are_closed():
 
 @test
 def four_sessions_of_a_node():
-    """A fifth session of a node is answered nothing and closed, and that is said on standard error.
-    Where one has ended there is room again."""
+    """A fifth session of a node is answered nothing and closed, its request makes no row, and that is
+    said on standard error. Where one has ended there is room again."""
     with start_station() as day, contextlib.ExitStack() as stack:
         peers = [stack.enter_context(day.connect()) for _ in range(MOST_OF_A_NODE)]
         for peer in peers:
             expect("a session", number(ask(peer, read_site(3, 1))), NOT_SIGNED_ON)
         with day.connect() as more, day.connect() as other:
-            more.sendall(read_site(3, 1))
+            more.sendall(sign_on(3))
             expect("a fifth one", receive_all(more), b"")
             expect("another till", number(ask(other, read_site(4, 1))), NOT_SIGNED_ON)
         leave(peers[0])
@@ -402,9 +402,10 @@ def four_sessions_of_a_node():
             expect("again", number(ask(again, read_site(3, 1))), NOT_SIGNED_ON)
         day.process.stdin.close()
         day.process.stdin = None
-        _, err = day.process.communicate(timeout=WAIT)
+        told, err = day.process.communicate(timeout=WAIT)
+        expect("rows: its request made none", count_rows(told.decode()), 0)
         lines = [line for line in err.decode().splitlines() if "t3" in line]
-        expect("said once", len(lines), 1)
+        expect("said once", lines, ["session of t3: it has 4 sessions"])
 
 
 @test
@@ -519,8 +520,7 @@ class TillModel:
 @test
 def a_till_that_is_taken_over():
     """Till 1 is signed on by one session. Another one signs it off and on, opens a point, and works
-    on. The end of the first one leaves the till signed on, with its lock; the end of the second
-    signs it off."""
+    on. The end of the first one leaves the till signed on; the end of the second signs it off."""
     with start_station() as day, day.connect() as first, day.connect() as look:
         expect_done(first, sign_on(1))
         with day.connect() as second:
@@ -654,12 +654,14 @@ def without_a_house_till():
 
 @test
 def the_house_till_is_nobodys():
-    """A session of the house till's node is answered 57 and ended, and makes no row. Another till
-    that isn't a manager's can't be the house till."""
-    with start_station("--house", 1) as day:
+    """A session of the house till's node is answered 57 and ended, at its door too, and makes no
+    row. Another till that isn't a manager's can't be the house till."""
+    doors = Doors("house", "till-01")
+    with start_station("--house", 1, "--doors", doors.folder) as day:
         for sent in (sign_on(1), read_site(1, 1), set_price(1, 1, 1)):
-            with day.connect() as peer:
-                expect_another_node(peer, sent)
+            for connect in (day.connect, lambda: doors.connect("till-01")):
+                with connect() as peer:
+                    expect_another_node(peer, sent)
         with day.connect() as till:
             expect_done(till, sign_on(2))
         expect("rows", count_rows(end(day)), 2)
@@ -861,6 +863,11 @@ def a_release_for_nobody():
             expect("it is ending", state(till, 2, 1), SUSPENDED_FUELLING)
             leave(pump)
         wait_until("lost", lambda: state(till, 2, 1) == INOPERATIVE)
+        refused = ask(till, command_point(2, 1, 1, RELEASE))
+        expect("a release", (number(refused), detail(refused)), (WRONG_STATE, INOPERATIVE))
+        sale = ask(till, read_sale(2, 1, 1, 1))
+        sold = sale.items[STATUS], int.from_bytes(sale.items[VOLUME], "big")
+        expect("its sale", sold, (bytes([PAYABLE]), LITRES))
         with day.connect() as pump:
             expect_done(pump, say(1))
             expect_done(till, command_point(2, 1, 1, OPEN), command_point(2, 1, 1, RELEASE))
