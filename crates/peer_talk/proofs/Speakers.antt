@@ -24,6 +24,10 @@ use Rattle.peer_talk.specs.Text.{as_meaning, is_another, is_same_node, meaning_a
 use Rattle.peer_talk.specs.declared.talk.Meaning.{Meaning}
 use Rattle.peer_talk.specs.declared.talk.Meaning.TheVariants as meanings
 
+first : (a b : Bool) → (a && b) ≡ true → a ≡ true
+first true b is = refl
+first false b is = absurd cc
+
 -- ---- a till speaks from the node of its number
 
 by_till : (from : List ℕ) (t : ℕ) → till_at from ≡ Ok (Till t) → IsOwn (Some t) (Some from)
@@ -37,10 +41,6 @@ by_till from t is =
     (first (slice_index from 0 == ids.TILL_SUBNET) (is_between 1 TILLS (slice_index from 1))
     test.0) in
     (subnet, cc)
-  where
-    first : (a b : Bool) → (a && b) ≡ true → a ≡ true
-    first true b is = refl
-    first false b is = absurd cc
 
 no_dispenser : (from : List ℕ) (t : ℕ) → dispenser_at from ≡ Ok (Till t)
     → IsOwn (Some t) (Some from)
@@ -57,6 +57,37 @@ by_kind kinds.Read from t is = by_till from t is
 by_kind kinds.Write from t is = by_till from t is
 by_kind kinds.Report from t is = no_dispenser from t is
 by_kind kind from t is = absurd cc
+
+-- ---- a dispenser speaks from the node of its point
+
+by_dispenser : (from : List ℕ) (p : ℕ) → dispenser_at from ≡ Ok (Dispenser p)
+    → IsSpokenBy (Dispenser p) (Some from)
+unfolding dispenser_at
+by_dispenser from p is =
+    let test =
+    passed (slice_index from 0 == ids.DISPENSER_SUBNET && is_between 1 POINTS (slice_index from 1))
+    BadOriginator (Ok (Dispenser (slice_index from 1))) (Dispenser p) is in
+    let same = ok_is (Dispenser (slice_index from 1)) (Dispenser p) test.1 in
+    let subnet = equal (slice_index from 0) ids.DISPENSER_SUBNET
+    (first (slice_index from 0 == ids.DISPENSER_SUBNET) (is_between 1 POINTS (slice_index from 1))
+    test.0) in
+    (subnet, cc)
+
+no_till : (from : List ℕ) (p : ℕ) → till_at from ≡ Ok (Dispenser p)
+    → IsSpokenBy (Dispenser p) (Some from)
+unfolding till_at
+no_till from p is =
+    let test =
+    passed (slice_index from 0 == ids.TILL_SUBNET && is_between 1 TILLS (slice_index from 1))
+    BadOriginator (Ok (Till (slice_index from 1))) (Dispenser p) is in
+    let same = ok_is (Till (slice_index from 1)) (Dispenser p) test.1 in absurd cc
+
+at_point : (kind : Kind) (from : List ℕ) (p : ℕ) → actor_at kind from ≡ Ok (Dispenser p)
+    → IsSpokenBy (Dispenser p) (Some from)
+at_point kinds.Read from p is = no_till from p is
+at_point kinds.Write from p is = no_till from p is
+at_point kinds.Report from p is = by_dispenser from p is
+at_point kind from p is = absurd cc
 
 asked_by : (m : Telegram) (actor : Actor) (event : Event) → request_at m ≡ Ok (actor, event)
     → actor_at m.kind m.from ≡ Ok actor
@@ -80,17 +111,13 @@ not_another : (peer from : List ℕ) → is_another (Some peer) from ≡ false
 not_another peer from is =
     let same = kept (is_same_node peer from) is in (
       equal (slice_index peer 0) (slice_index from 0)
-          (one (slice_index peer 0 == slice_index from 0)
+          (first (slice_index peer 0 == slice_index from 0)
           (slice_index peer 1 == slice_index from 1) same),
       equal (slice_index peer 1) (slice_index from 1)
           (both (slice_index peer 0 == slice_index from 0)
           (slice_index peer 1 == slice_index from 1) same),
     )
   where
-    one : (a b : Bool) → (a && b) ≡ true → a ≡ true
-    one true b is = refl
-    one false b is = absurd cc
-
     kept : (b : Bool) → not b ≡ false → b ≡ true
     kept true is = refl
     kept false is = absurd cc
@@ -104,8 +131,12 @@ spoken_by (Some peer) m (Till t) event same is =
     let there = by_kind m.kind m.from t (asked_by m (Till t) event is) in
     let one = not_another peer m.from same in
     (one.0 ∙ there.0, one.1 ∙ there.1)
-spoken_by None m (Dispenser p) event same is = tt
-spoken_by (Some peer) m (Dispenser p) event same is = tt
+spoken_by None m (Dispenser p) event same is =
+    at_point m.kind m.from p (asked_by m (Dispenser p) event is)
+spoken_by (Some peer) m (Dispenser p) event same is =
+    let there = at_point m.kind m.from p (asked_by m (Dispenser p) event is) in
+    let one = not_another peer m.from same in
+    (one.0 ∙ there.0, one.1 ∙ there.1)
 
 -- ---- what a message means
 

@@ -6,7 +6,7 @@ use Rattle.site_base.specs.declared.actor.Actor.{Actor}
 use Rattle.site_base.specs.declared.actor.Actor.TheVariants.{Till, Dispenser}
 use Rattle.site_base.specs.declared.event.Event.{Event}
 use Rattle.app_message.specs.Telegram.{Telegram}
-use Rattle.device_map.specs.declared.ids.TheConstants.{TILL_SUBNET}
+use Rattle.device_map.specs.declared.ids.TheConstants.{DISPENSER_SUBNET, TILL_SUBNET}
 use Rattle.peer_talk.specs.declared.talk.Meaning.{Meaning}
 use Rattle.peer_talk.specs.declared.talk.Meaning.TheVariants as meanings
 use Rattle.peer_talk.specs.Exchanges.{Asked, Outcome, outcome_given, request_asked}
@@ -33,10 +33,12 @@ IsOwn None peer = Unit {0}
 IsOwn (Some t) None = ⊥
 IsOwn (Some t) (Some node) = (slice_index node 0 ≡ TILL_SUBNET) × (slice_index node 1 ≡ t)
 
--- a till that speaks is the one that the session serves
+-- a till or dispenser that speaks is the one that the session serves
 abbrev pub IsSpokenBy : Actor → Option (List ℕ) → Type 0
 IsSpokenBy (Till t) peer = IsOwn (Some t) peer
-IsSpokenBy (Dispenser p) peer = Unit {0}
+IsSpokenBy (Dispenser p) None = ⊥
+IsSpokenBy (Dispenser p) (Some node) =
+    (slice_index node 0 ≡ DISPENSER_SUBNET) × (slice_index node 1 ≡ p)
 
 -- whoever asks so is the one that the session serves
 abbrev pub IsRequestOf : Option (List ℕ) → Meaning → Type 0
