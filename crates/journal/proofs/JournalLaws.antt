@@ -34,7 +34,8 @@ use Rattle.journal.specs.Laws.{StampsRise, StationsRowsAreSent, StoredRowsAreFou
 use Rattle.journal.specs.Laws.{ToldRowsAreFoundAgain, WritesRising}
 use Rattle.journal.specs.Lives.{end_of}
 use Rattle.journal.specs.Readings.{TellsWhole, texts_of}
-use Rattle.journal.specs.Stored.{GrowsByRound, HoldsRows, IsJournalOf, JournalState, StoredState, has_stored}
+use Rattle.journal.specs.Stored.{GrowsByRound, HoldsRows, IsJournalOf, JournalState, StoredState}
+use Rattle.journal.specs.Stored.{has_stored}
 use Rattle.journal.specs.Stored.{is_all_stored, told_at}
 use Rattle.journal.proofs.Lives.{goes_for_life, told_whole}
 use Rattle.journal.proofs.Moves.{forgotten_are_sent, rows_are_sent}

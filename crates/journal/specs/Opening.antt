@@ -26,8 +26,8 @@ abbrev pub all_off : Book → Book
 all_off b = tills_off TILLS b
 
 -- a station without peers, at the recovered book with the sign-offs of those that are signed on
--- behind it; each row is stored in the journal, which goes on from this disk by their lines, at this
--- time behind the last one
+-- behind it; each row is stored in the journal, which goes on from this disk by their lines, at
+-- this time behind the last one
 pub record Resumes (site : List ℕ) (recovered : Book) (last now : Option (List ℕ))
     (file : Option DiskFile) (s : StoredState) : Type 0 where
   pub alone : s.station ≡ opening_station open_gates s.station.book

@@ -9,7 +9,7 @@ ghost use Rattle.station.specs.Moves.{end_release, lose, with_end, with_octets, 
 ghost use Rattle.station.specs.Moves.{without_peer};
 ghost use Rattle.station.specs.Reads.{Arrives, ArrivesAt, IsNextOwed, NoneIsOwed, end_at};
 ghost use Rattle.station.specs.Reads.{is_read_at};
-ghost use Rattle.station.specs.Reads.{node_at, owed_at};
+ghost use Rattle.station.specs.Reads.{node_at, owed_at, speaker_at};
 ghost use Rattle.station.specs.Runs.{opening_station};
 ghost use Rattle.station.specs.Sessions.{Grants};
 ghost use Rattle.std.specs.List.{AllByRecursion};
@@ -179,6 +179,13 @@ impl<D: Disk> StoredStation<D> {
         self.station.arrive_at(door)
     }
 
+    /// Whom a session that lasts is of, as `Station::speaker` says.
+    pub fn speaker(&self, key: usize) -> Option<[u8; 2]>
+        ensures { result ≡ speaker_at self.now.station key }
+    {
+        self.station.speaker(key)
+    }
+
     /// How many sessions of a node last.
     pub fn session_count(&self, node: [u8; 2]) -> usize
         ensures { result ≡ count_at node self.now.station.peers }
@@ -258,8 +265,8 @@ impl<D: Disk> StoredStation<D> {
         }
     }
 
-    /// Puts a seal behind the last row of the journal, if it has one that isn't sealed: at the day's
-    /// end. After an error the journal takes no more.
+    /// Puts a seal behind the last row of the journal, if it has one that isn't sealed: at the
+    /// day's end. After an error the journal takes no more.
     pub fn seal(&mut self) -> Result<(), DiskFault>
         ensures station { self.new.station ≡ self.old.station }
         ensures stored { is_all_stored self.new ≡ is_all_stored self.old }

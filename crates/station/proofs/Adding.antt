@@ -3,7 +3,7 @@
 use Rattle.std.proofs.Common.{◌≡◌, ◌⊎◌, inl, inr, ℕ, Bool, true, false, List, [], ◌∷◌, ◌++◌, map}
 use Rattle.std.proofs.Common.{Option, Some, None, refl, ap, sym, subst, ◌∙◌, append_assoc}
 use Rattle.std.proofs.Common.{append-nil}
-use Rattle.std.specs.Prelude.{if◌then◌else◌, is_none}
+use Rattle.std.specs.Prelude.{if◌then◌else◌, is_none, nat_lt, slice_get}
 use Rattle.std.proofs.lemmas.List.{map-append}
 use Rattle.site_base.specs.declared.actor.Actor.TheVariants.{Till}
 use Rattle.site_base.specs.declared.answer.Answer.TheVariants.{Done}
@@ -31,12 +31,14 @@ use Rattle.station.specs.Adding.{AddsRequests, AddsSignOff, IsLeaving, is_silent
 use Rattle.station.specs.Adding.{till_of}
 use Rattle.station.specs.Moves.{StationState, finish_at, hear_from, take_by, with_end, with_octets}
 use Rattle.station.specs.Moves.{admits_at, with_turn}
+use Rattle.station.specs.declared.sizes.TheConstants.{FREE_PLACES}
 use Rattle.station.specs.Peers.{peer_at}
+use Rattle.station.specs.Places.{is_place_at}
 use Rattle.station.specs.Reads.{is_read_at, is_read_of}
 use Rattle.station.specs.Runs.{Arrives, EndsRelease, Finishes, Forgets, Leaves as Gone, Loses}
 use Rattle.station.specs.Runs.{Move, Says, Takes}
 use Rattle.station.specs.Runs.{after_move}
-use Rattle.station.specs.Runs.{arrive}
+use Rattle.station.specs.Runs.{arrive, give, give_at}
 use Rattle.station.specs.Sessions.{Granted, Grants, Session, Turn, answer, answer_meaning, ask}
 use Rattle.conversation.specs.Books.{outcome_at}
 use Rattle.station.specs.Sessions.{end_session, finish, hear, is_read, no_memory}
@@ -60,10 +62,10 @@ off_row b t on =
     } in row) (may_sign_off (site_of_book b) t on)
 
 -- the rows with the sign-off of a till that is left, if there is one
-record Leaves (on : Option ℕ) (b b' : Book) : Type 0 where
-  left : List Row
-  rows : b'.rows ≡ b.rows ++ left
-  leaving : IsLeaving on left
+pub record Leaves (on : Option ℕ) (b b' : Book) : Type 0 where
+  pub left : List Row
+  pub rows : b'.rows ≡ b.rows ++ left
+  pub leaving : IsLeaving on left
 
 leaves_none : (on : Option ℕ) → IsLeaving on []
 leaves_none None = refl
@@ -72,7 +74,7 @@ leaves_none (Some t) = inl refl
 abbrev none_left : (on : Option ℕ) (b : Book) → Leaves on b b
 none_left on b = record { left = []; rows = sym (append-nil b.rows); leaving = leaves_none on }
 
-leaves_till : (on : Option ℕ) (b : Book) → Leaves on b (without_till on b)
+pub leaves_till : (on : Option ℕ) (b : Book) → Leaves on b (without_till on b)
 leaves_till None b = none_left None b
 leaves_till (Some t) b = by_test (is_signed_on (site_of_book b) t) refl
   where
@@ -256,12 +258,22 @@ octets_unheard s memory k octets unread = by_slot (peer_at s.peers k) unread
 
 -- ---- moves without octets
 
-arrived_book : (k : ℕ) (door : Option (List ℕ)) (y : Option Session) (s : StationState)
-    → (arrive k door y s).book ≡ s.book
-arrived_book k door None s = refl
-arrived_book k door (Some x) s = refl
+given_book : (is_place : Bool) (k : ℕ) (door : Option (List ℕ)) (y : Option Session)
+    (s : StationState) → (give is_place k door y s).book ≡ s.book
+given_book true k door None s = refl
+given_book false k door None s = refl
+given_book true k door (Some x) s = refl
+given_book false k door (Some x) s = refl
 
-taken_book : (k n : ℕ) (y : Option Session) (s : StationState) → (take_by k n y s).book ≡ s.book
+pub arrived_book : (k : ℕ) (door : Option ℕ) (s : StationState) → (arrive k door s).book ≡ s.book
+arrived_book k None s = given_book (nat_lt k FREE_PLACES) k None (peer_at s.peers k) s
+arrived_book k (Some door) s = at_door (slice_get s.gates.doors door)
+  where
+    at_door : (node : Option (List ℕ)) → (give_at k door node s).book ≡ s.book
+    at_door None = refl
+    at_door (Some node) = given_book (is_place_at door k) k (Some node) (peer_at s.peers k) s
+
+pub taken_book : (k n : ℕ) (y : Option Session) (s : StationState) → (take_by k n y s).book ≡ s.book
 taken_book k n None s = refl
 taken_book k n (Some x) s = refl
 
@@ -288,7 +300,7 @@ pub silent_moves : (m : Move) (s : StationState) → is_silent m ≡ true
     → AddsSignOff (till_left m s) s.book (after_move m s).book
 silent_moves (Arrives k door) s silent =
     adds_none None s.book _
-    (ap (λ (b : Book). b.rows) (arrived_book k door (peer_at s.peers k) s))
+    (ap (λ (b : Book). b.rows) (arrived_book k door s))
 silent_moves (Says memory k octets) s silent = absurd cc
 silent_moves (EndsRelease on off p) s silent = absurd cc
 silent_moves (Loses memory p) s silent = absurd cc

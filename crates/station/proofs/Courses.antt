@@ -3,6 +3,8 @@ use Rattle.std.proofs.Common.{◌≡◌, ◌≢◌, inl, inr, ℕ, ◌==◌, Boo
 use Rattle.std.proofs.Common.{◌++◌, Option, Some, None, refl, ap, sym, subst, ◌∙◌, append_assoc}
 use Rattle.std.proofs.Common.{append-nil, take, drop, take-append-drop, map}
 use Rattle.std.specs.Prelude.{◌&&◌, if◌then◌else◌, is_none, length, nat_lt, option_map}
+use Rattle.std.specs.Prelude.{slice_get}
+use Rattle.std.proofs.lemmas.Bool.{false≢true}
 use Rattle.site_base.specs.declared.row.Row.{Row}
 use Rattle.site_base.specs.Configured.{Configured}
 use Rattle.app_message.specs.Stream.{stream_of, walk}
@@ -13,16 +15,19 @@ use Rattle.peer_talk.proofs.Courses.{on_none}
 use Rattle.site_book.specs.Book.{Book}
 use Rattle.site_book.proofs.Books.{forgets_alone}
 use Rattle.station.specs.declared.peer_end.PeerEnd.{PeerEnd}
-use Rattle.station.specs.declared.sizes.TheConstants.{READ_LIMIT}
+use Rattle.station.specs.declared.sizes.TheConstants.{FREE_PLACES, READ_LIMIT}
+use Rattle.station.specs.Places.{is_place_at}
 use Rattle.station.specs.Moves.{StationState, finish_at, hear_from, rows_since, take_by}
 use Rattle.station.specs.Moves.{admits_at, with_arrival, with_book, with_turn, without_old_rows}
 use Rattle.station.specs.Peers.{tell_rows, peer_at, with_peer, with_notices}
 use Rattle.station.specs.Runs.{Arrives, EndsRelease, Finishes, Forgets, Leaves, Loses, Move, Says}
 use Rattle.station.specs.Runs.{Stays, Takes, after}
-use Rattle.station.specs.Runs.{after_move, heard_of, heard_with, stays_with, taken_with, text_to}
+use Rattle.station.specs.Runs.{after_move, arrive, give, give_at, heard_of, heard_with, stays_with}
+use Rattle.station.specs.Runs.{taken_with, text_to}
 use Rattle.station.specs.Reads.{is_read_at, owed_at}
 use Rattle.station.specs.Sessions.{Grants, Session, Turn, finish, hear, is_read, opening_session}
-use Rattle.station.specs.Stories.{IsTold, asked_in, is_all_answered, is_whole, messages_in}
+use Rattle.station.specs.Stories.{IsTold, asked_in, is_all_answered, is_unheard, is_whole}
+use Rattle.station.specs.Stories.{messages_in}
 use Rattle.station.specs.Stories.{refusal_by, refusal_in, rows_in, said_in, told_in}
 use Rattle.conversation.specs.Books.{outcome_at}
 use Rattle.station.proofs.Keeping.{Acts, Leads, after_input, key_of, lost, moved_keeps, own_acts}
@@ -170,6 +175,7 @@ own_takes c before had sent k n s seen = record {
         unanswered = d.1.unanswered;
         messages = d.1.messages;
         answered = d.1.answered;
+        unheard = d.1.unheard;
         refused = d.1.refused;
         asked = d.1.asked;
         quiet = d.1.quiet;
@@ -232,10 +238,12 @@ other_leads : (c : Configured) (before : List Row) (had sent : List ℕ) (k j : 
     → Leads (IsSeen c before had sent k) j s
 other_leads c before had sent k j s other seen = record {
   stays = seen;
-  comes = λ door none. other_slot c before had sent k j (Some (opening_session door)) s other seen;
+  comes = λ door none place.
+      other_slot c before had sent k j (Some (opening_session door)) s other seen;
   turns = λ input x there lasts.
-      other_turn c before had sent k j (after_input input (turn_at s x)) s other
-      (input-grows input (turn_at s x) lasts) seen;
+      let admits = admits_at j x.door s in
+      other_turn c before had sent k j (after_input admits input (turn_at s x)) s other
+      (input-grows admits input (turn_at s x) lasts) seen;
   takes = λ n x there. other_slot c before had sent k j _ s other seen;
   leaves = λ later x there over still. other_slot c before had sent k j None later other still;
 }
@@ -252,12 +260,34 @@ untaken : (k : ℕ) (m : Move) (s : StationState) → (key_of m == k) ≡ false
 untaken k (Takes j n) s other = ap (λ b. if b then take n (owed_at s k) else []) other
 untaken k m s other = refl
 
+-- nobody else gets the key of a peer
+key_taken : (k : ℕ) (door : Option ℕ) (s : StationState) (x : Session)
+    → peer_at s.peers k ≡ Some x → arrive k door s ≡ s
+key_taken k door s x there = by_door door
+  where
+    given : (is_place : Bool) (at : Option (List ℕ)) (y : Option Session) → y ≡ Some x
+        → give is_place k at y s ≡ s
+    given true at (Some z) is = refl
+    given false at (Some z) is = refl
+    given is_place at None is = absurd cc
+
+    at_door : (place : ℕ) (at : Option (List ℕ)) → give_at k place at s ≡ s
+    at_door place None = refl
+    at_door place (Some its) = given (is_place_at place k) (Some its) (peer_at s.peers k) there
+
+    by_door : (d : Option ℕ) → arrive k d s ≡ s
+    by_door None = given (nat_lt k FREE_PLACES) None (peer_at s.peers k) there
+    by_door (Some place) = at_door place (slice_get s.gates.doors place)
+
 own_moves : (c : Configured) (before : List Row) (had sent : List ℕ) (k : ℕ) (m : Move)
     (s : StationState) → (key_of m == k) ≡ true → stays_with k m ≡ true
     → IsSeen c before had sent k s
     → IsSeen c before (had ++ taken_with k m s) (sent ++ heard_with k m s) k (after_move m s)
 own_moves c before had sent k (Arrives j door) s own stays seen =
-    rw (equal j k own, seen.there, append-nil had, append-nil sent) seen
+    rw (append-nil had, append-nil sent)
+    (subst (IsSeen c before had sent k)
+    (sym (key_taken j door s seen.session (ap (peer_at s.peers) (equal j k own) ∙ seen.there)))
+    seen)
 own_moves c before had sent k (Says memory j octets) s own stays seen =
     rw (own, equal j k own, seen.there, append-nil had)
     (own_says c before had sent k memory octets s seen)
@@ -305,6 +335,8 @@ is_told c before had sent b x (inl h) =
       unanswered = [];
       messages = sym (append-nil (messages_in l.story) ∙ l.messages);
       answered = λ is. refl;
+      unheard = λ is.
+          absurd (false≢true (ap is_unheard (sym l.lasts) ∙ is));
       asked = l.asked;
       unasked = [];
       requests = (let all = l.said.requests [] in rw (append-nil ms) at all);
@@ -332,6 +364,7 @@ is_told c before had sent b x (inr d) = record {
   unanswered = d.1.unanswered;
   messages = d.1.messages;
   answered = λ is. d.1.answered (ap is_all_answered (sym d.1.over) ∙ is);
+  unheard = λ is. d.1.unheard (ap is_unheard (sym d.1.over) ∙ is);
   asked = d.1.asked;
   unasked = d.1.unasked;
   requests = d.1.requests;

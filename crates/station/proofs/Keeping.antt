@@ -7,6 +7,7 @@
 use Rattle.std.proofs.Common.{◌≡◌, ℕ, Bool, true, false, List, [], ◌∷◌, ◌++◌, Option, Some, None}
 use Rattle.std.proofs.Common.{Ok, Err, drop, refl, ap, sym, subst, ◌∙◌, append-nil}
 use Rattle.std.specs.Prelude.{◌&&◌, ◌==◌, if◌then◌else◌, is_none, length, nat_lt, option_map}
+use Rattle.std.specs.Prelude.{slice_get}
 use Rattle.site_base.specs.declared.actor.Actor.{Actor}
 use Rattle.site_base.specs.declared.actor.Actor.TheVariants.{Dispenser, Till}
 use Rattle.site_base.specs.declared.event.Event.{Event}
@@ -36,7 +37,7 @@ use Rattle.station.specs.Gates.{count_at}
 use Rattle.peer_talk.proofs.Speakers.{request_meant, spoken_by}
 use Rattle.station.specs.declared.peer_end.PeerEnd.{PeerEnd}
 use Rattle.station.specs.declared.peer_end.PeerEnd.TheVariants as ends
-use Rattle.station.specs.declared.sizes.TheConstants.{NOTICE_LIMIT, READ_LIMIT}
+use Rattle.station.specs.declared.sizes.TheConstants.{FREE_PLACES, NOTICE_LIMIT, READ_LIMIT}
 use Rattle.station.specs.Moves.{StationState, finish_at, free, hear_from, rows_since, take_by}
 use Rattle.station.specs.Moves.{IsOwnEvent, admits_at, end_release_by, is_released_at, lose}
 use Rattle.station.specs.Moves.{with_arrival, with_book, with_end, with_own_row}
@@ -46,9 +47,10 @@ use Rattle.station.specs.Listening.{listener}
 use Rattle.station.specs.Peers.{forget_till, peer_at, row_off, tell_notice, tell_row, tell_rows}
 use Rattle.station.specs.Peers.{with_notices}
 use Rattle.station.specs.Peers.{with_peer}
+use Rattle.station.specs.Places.{IsPlaceFor, is_place_at}
 use Rattle.station.specs.Runs.{Arrives, EndsRelease, Finishes, Forgets, Leaves, Loses, Move, Says}
 use Rattle.station.specs.Runs.{Takes, after, after_move}
-use Rattle.station.specs.Runs.{arrive}
+use Rattle.station.specs.Runs.{arrive, give, give_at}
 use Rattle.station.specs.Sessions.{Granted, Grants, Session, Turn, answer, answer_all}
 use Rattle.station.specs.Sessions.{answer_meaning, ask, end_by, end_session, finish, full_grant}
 use Rattle.conversation.specs.Books.{outcome_at, with_outcome}
@@ -156,25 +158,25 @@ pub record Keeps (P : Turn → Type 0) : Type 0 where
 
 -- what comes of a peer: a piece of octets, or their end
 pub data Input : Type 0 where
-  Piece : (admits : List ℕ → Admission) (memory : Grants) (octets : List ℕ) → Input
+  Piece : (memory : Grants) (octets : List ℕ) → Input
   NoMore : Input
 
--- a session has heard it
-abbrev pub after_input : Input → Turn → Turn
-after_input (Piece admits memory octets) t = hear admits memory octets t
-after_input NoMore t = finish t
+-- a session has heard it, which these may open
+abbrev pub after_input : (List ℕ → Admission) → Input → Turn → Turn
+after_input admits (Piece memory octets) t = hear admits memory octets t
+after_input admits NoMore t = finish t
 
 -- a session that holds these octets of a message to come
 abbrev pub holding : Held → Turn → Turn
 holding h t = record t { session = record t.session { held = h } }
 
 module _ {P : Turn → Type 0} (keeps : Keeps P) where
-  told_keeps : (memory : Bool) (text : List ℕ) (t : Turn) → t.session.end ≡ None → P t
+  pub told_keeps : (memory : Bool) (text : List ℕ) (t : Turn) → t.session.end ≡ None → P t
       → P (tell memory text t)
   told_keeps true text t lasts p = keeps.tells text t lasts p
   told_keeps false text t lasts p = keeps.ends no_memory t lasts p
 
-  last_keeps : (memory : Bool) (text : List ℕ) (end : PeerEnd) (t : Turn) → t.session.end ≡ None
+  pub last_keeps : (memory : Bool) (text : List ℕ) (end : PeerEnd) (t : Turn) → t.session.end ≡ None
       → P t → P (tell_last memory text end t)
   last_keeps true text end t lasts p =
       keeps.ends end (with_text text t) lasts (keeps.tells text t lasts p)
@@ -219,17 +221,18 @@ module _ {P : Turn → Type 0} (keeps : Keeps P) where
       (λ end over. p)
 
   -- whatever comes of its peer
-  pub heard_keeps : (input : Input) (t : Turn) → t.session.end ≡ None
-      → P t → ((piece : List ℕ) → P (holding (held_part (fed_by t.session.held piece)) t))
-      → P (after_input input t)
-  heard_keeps (Piece admits g piece) t lasts p holds =
+  pub heard_keeps : (admits : List ℕ → Admission) (input : Input) (t : Turn)
+      → t.session.end ≡ None → P t
+      → ((piece : List ℕ) → P (holding (held_part (fed_by t.session.held piece)) t))
+      → P (after_input admits input t)
+  heard_keeps admits (Piece g piece) t lasts p holds =
       let fed = fed_by t.session.held piece in
       let start = holding (held_part fed) t in
       by_memory P admits g piece t
       (refused_keeps g.refusal fed.fault (admit admits g.first g.messages fed.messages start)
       (admitted_keeps admits g.first g.messages fed.messages start lasts (holds piece)))
       (keeps.ends no_memory t lasts p)
-  heard_keeps NoMore t lasts p holds =
+  heard_keeps admits NoMore t lasts p holds =
       keeps.ends (end_by (left_over t.session.held.rest)) t lasts p
 
 -- ---- where a move leads
@@ -253,13 +256,15 @@ turn_at s x = record { book = s.book; session = x }
 abbrev pub with_slot : ℕ → Option Session → StationState → StationState
 with_slot k y s = record s { peers = with_peer k y s.peers }
 
--- Q holds wherever a move of key k leads: where nothing changes, where a peer comes, behind a turn
--- of a session that lasts, where octets are taken, and where a session that has ended is gone.
+-- Q holds wherever a move of key k leads: where nothing changes, where a peer comes to a place,
+-- behind a turn of a session that lasts, which those may open whom the station admits, where octets
+-- are taken, and where a session that has ended is gone.
 pub record Leads (Q : StationState → Type 0) (k : ℕ) (s : StationState) : Type 0 where
   pub stays : Q s
-  pub comes : (door : Option (List ℕ)) → peer_at s.peers k ≡ None → Q (with_arrival k door s)
+  pub comes : (door : Option (List ℕ)) → peer_at s.peers k ≡ None
+      → IsPlaceFor s.gates.doors k door → Q (with_arrival k door s)
   pub turns : (input : Input) (x : Session) → peer_at s.peers k ≡ Some x → x.end ≡ None
-      → Q (with_turn k (after_input input (turn_at s x)) s)
+      → Q (with_turn k (after_input (admits_at k x.door s) input (turn_at s x)) s)
   pub takes : (n : ℕ) (x : Session) → peer_at s.peers k ≡ Some x
       → Q (with_slot k (Some (record x { owed = drop n x.owed })) s)
   pub leaves : (later : StationState) (x : Session) → peer_at later.peers k ≡ Some x
@@ -290,10 +295,24 @@ finished_over k (Some x) s there = by_test (is_none x.end) refl
     by_test false is = ap lasts_at there ∙ is
 
 module _ {Q : StationState → Type 0} (k : ℕ) (s : StationState) (leads : Leads Q k s) where
-  come : (door : Option (List ℕ)) (y : Option Session) → peer_at s.peers k ≡ y
-      → Q (arrive k door y s)
-  come door None there = leads.comes door there
-  come door (Some x) there = leads.stays
+  given : (door : Option (List ℕ)) (is_place : Bool) (y : Option Session)
+      → (is_place ≡ true → IsPlaceFor s.gates.doors k door) → peer_at s.peers k ≡ y
+      → Q (give is_place k door y s)
+  given door true None place there = leads.comes door there (place refl)
+  given door false None place there = leads.stays
+  given door true (Some x) place there = leads.stays
+  given door false (Some x) place there = leads.stays
+
+  come : (door : Option ℕ) → Q (arrive k door s)
+  come None = given None (nat_lt k FREE_PLACES) (peer_at s.peers k) (λ is. is) refl
+  come (Some door) = at_door (slice_get s.gates.doors door) refl
+    where
+      at_door : (node : Option (List ℕ)) → slice_get s.gates.doors door ≡ node
+          → Q (give_at k door node s)
+      at_door None none = leads.stays
+      at_door (Some node) is =
+          given (Some node) (is_place_at door k) (peer_at s.peers k) (λ place. (door, place, is))
+          refl
 
   say : (g : Grants) (piece : List ℕ) (y : Option Session) → peer_at s.peers k ≡ y
       → Q (hear_from g k piece y s)
@@ -303,7 +322,7 @@ module _ {Q : StationState → Type 0} (k : ℕ) (s : StationState) (leads : Lea
       by_test : (b : Bool) → is_read x ≡ b
           → Q (if b then with_turn k (hear (admits_at k x.door s) g piece (turn_at s x)) s else s)
       by_test true read =
-          leads.turns (Piece (admits_at k x.door s) g piece) x there (read_lasts x read)
+          leads.turns (Piece g piece) x there (read_lasts x read)
       by_test false read = leads.stays
 
   take : (n : ℕ) (y : Option Session) → peer_at s.peers k ≡ y → Q (take_by k n y s)
@@ -354,8 +373,7 @@ module _ {Q : StationState → Type 0} (s : StationState) (q : Q s) (acts : Acts
 -- .. where the station itself acts, and where rows are forgotten, if they are
 pub moved_keeps : (Q : StationState → Type 0) (m : Move) (s : StationState) → Leads Q (key_of m) s
     → Acts Q s → (m ≡ Forgets → Q (without_old_rows s)) → Q (after_move m s)
-moved_keeps Q (Arrives k door) s leads acts forgets =
-    come k s leads door (peer_at s.peers k) refl
+moved_keeps Q (Arrives k door) s leads acts forgets = come k s leads door
 moved_keeps Q (Says memory k octets) s leads acts forgets =
     say k s leads memory octets (peer_at s.peers k) refl
 moved_keeps Q (Takes k n) s leads acts forgets = take k s leads n (peer_at s.peers k) refl
@@ -448,9 +466,9 @@ module _ {B : Book → Type 0} (rows : RowsKeep B) where
   book_leads : (k : ℕ) (s : StationState) → B s.book → Leads (λ later. B later.book) k s
   book_leads k s kept = record {
     stays = kept;
-    comes = λ door none. kept;
+    comes = λ door none place. kept;
     turns = λ input x there lasts.
-        heard_keeps rows_keep input (turn_at s x) lasts kept (λ piece. kept);
+        heard_keeps rows_keep (admits_at k x.door s) input (turn_at s x) lasts kept (λ piece. kept);
     takes = λ n x there. kept;
     leaves = λ later x there over still. still;
   }
@@ -539,16 +557,18 @@ module _ {S : Session → Type 0} (keeps : EachKeeps S) where
   each_leads : (k : ℕ) (s : StationState) → EachHolds S s → Leads (EachHolds S) k s
   each_leads k s each = record {
     stays = each;
-    comes = λ door none j.
+    comes = λ door none place j.
         at_slot (HoldsAt S) k j (Some (opening_session door)) s.peers (λ same. keeps.opens door)
         (λ other. each j);
     turns = λ input x there lasts j.
-        let t = after_input input (turn_at s x) in
+        let admits = admits_at k x.door s in
+        let t = after_input admits input (turn_at s x) in
         let rows = rows_since s.book t.book in
         let kept : S x = subst (HoldsAt S) there (each k) in
         at_slot (HoldsAt S) k j (Some t.session) (with_notices rows s.peers)
         (λ same.
-        heard_keeps keeps.turns input (turn_at s x) lasts kept (λ piece. keeps.holds piece x kept))
+        heard_keeps keeps.turns admits input (turn_at s x) lasts kept
+        (λ piece. keeps.holds piece x kept))
         (λ other.
         subst (HoldsAt S) (sym (peer_at-map (option_map (tell_rows rows)) j s.peers refl))
         (slot_noticed s.book rows (peer_at s.peers j) (each j)));
@@ -569,7 +589,8 @@ module _ {S : Session → Type 0} (keeps : EachKeeps S) where
   each_acts : (s : StationState) → EachHolds S s → Acts (EachHolds S) s
   each_acts = own_acts (EachHolds S) (record {
     asks = λ memory actor event s own each.
-        booked_keeps (with_outcome actor event (outcome_at memory s.book actor event) s.book) s each;
+        booked_keeps (with_outcome actor event (outcome_at memory s.book actor event) s.book) s
+        each;
     leaves = λ t s each. booked_keeps (without_till (Some t) s.book) s each;
   })
 

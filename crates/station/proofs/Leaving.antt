@@ -27,7 +27,7 @@ use Rattle.station.specs.declared.peer_end.PeerEnd.TheVariants as ends
 use Rattle.station.specs.declared.sizes.TheConstants.{NOTICE_LIMIT}
 use Rattle.station.specs.Moves.{StationState, finish_at, free, rows_since, with_end, with_turn}
 use Rattle.station.specs.Moves.{with_book, with_own_row, with_release_ended, without_old_rows}
-use Rattle.station.specs.Moves.{without_peer}
+use Rattle.station.specs.Moves.{admits_at, without_peer}
 use Rattle.station.specs.Notices.{notice_at, row_notice}
 use Rattle.station.specs.Gates.{GateState}
 use Rattle.station.specs.Listening.{listener}
@@ -282,16 +282,17 @@ ends_lead : (j k : ℕ) (s : StationState) (x : Session) → peer_at s.peers j �
     → Leads (λ later. HaveLeft later.book (peer_at later.peers j)) k s
 ends_lead j k s x there own lasts = record {
   stays = before;
-  comes = λ door none.
+  comes = λ door none place.
       at_slot (HaveLeft s.book) k j (Some (opening_session door)) s.peers
       (λ same. lasting_left (turn_at s (opening_session door)) refl) (λ other. before);
   turns = λ input z it ongoing.
       let start = turn_at s z in
-      let t = after_input input start in
+      let admits = admits_at k z.door s in
+      let t = after_input admits input start in
       let rows = rows_since s.book t.book in
       at_slot (HaveLeft t.book) k j (Some t.session) (with_notices rows s.peers)
       (λ same.
-      heard_keeps till_is_left input start ongoing (lasting_left start ongoing)
+      heard_keeps till_is_left admits input start ongoing (lasting_left start ongoing)
       (λ piece. lasting_left start ongoing))
       (λ other.
       subst (HaveLeft t.book)
@@ -351,7 +352,8 @@ ends_act j s x there own lasts =
     record {
       ends_release = λ on off t p house released.
           let later = with_release_ended on off t p s in
-          held_left later.book (peer_at later.peers j) (acts.ends_release on off t p house released);
+          held_left later.book (peer_at later.peers j)
+          (acts.ends_release on off t p house released);
       loses = λ memory p gone.
           let later = with_own_row memory (Dispenser p) (Offline p) s in
           held_left later.book (peer_at later.peers j) (acts.loses memory p gone);

@@ -17,3 +17,8 @@ pub mod Adding
 pub mod Standings
 pub mod Knowledge
 pub mod TillSessions
+pub mod Doors
+pub mod DoorPlaces
+pub mod OwnRows
+pub mod Costs
+pub mod Endings

@@ -1,5 +1,6 @@
 -- A session in its course, message after message and piece after piece, and how it ends.
-use Rattle.std.proofs.Common.{◌≡◌, ◌⊎◌, inl, inr, ℕ, Bool, true, false, List, [], ◌∷◌, ◌++◌, map}
+use Rattle.std.proofs.Common.{◌≡◌, ◌≢◌, ◌⊎◌, inl, inr, ℕ, Bool, true, false, List, [], ◌∷◌, ◌++◌}
+use Rattle.std.proofs.Common.{map}
 use Rattle.std.proofs.Common.{Option, Some, None, Ok, Err, refl, ap, sym, subst, ◌∙◌, append_assoc}
 use Rattle.std.proofs.Common.{append-nil}
 use Rattle.std.specs.Prelude.{if◌then◌else◌, is_none, length, nat_lt}
@@ -19,6 +20,7 @@ use Rattle.device_map.specs.Faults.{map_number}
 use Rattle.device_map.specs.Replies.{fault_message}
 use Rattle.device_map.specs.Requests.{request_at}
 use Rattle.site_book.specs.Book.{Book}
+use Rattle.peer_talk.specs.declared.fault.TalkFault.{TalkFault}
 use Rattle.peer_talk.specs.declared.fault.TalkFault.TheVariants as talk
 use Rattle.peer_talk.specs.declared.fault.TheConstants.{ORIGINATOR_CHANGED}
 use Rattle.peer_talk.specs.declared.talk.Meaning.{Meaning}
@@ -42,7 +44,8 @@ use Rattle.conversation.specs.Books.{outcome_at}
 use Rattle.station.specs.Sessions.{no_memory, opening_text, refuse_by, serve}
 use Rattle.conversation.specs.Books.{with_outcome}
 use Rattle.station.specs.Sessions.{admit, take_messages, tell, tell_last}
-use Rattle.station.specs.Stories.{AreAsked, Happening, asked_in, is_all_answered}
+use Rattle.station.specs.Stories.{AreAsked, Happening, Passes, Speaks, asked_in}
+use Rattle.station.specs.Stories.{is_all_answered, is_unheard, peer_in}
 use Rattle.station.specs.Stories.{is_whole, messages_in, on_behind, refusal_by, refusal_in, rows_in}
 use Rattle.station.specs.Stories.{said_in, signed_in, told_in}
 use Rattle.station.proofs.Keeping.{Keeps, admitted_keeps, by_admission, by_fault, by_lasting}
@@ -63,6 +66,7 @@ pub record IsDone (c : Configured) (before : List Row) (had : List ℕ) (all : L
   pub unanswered : List Telegram
   pub messages : all ≡ messages_in story ++ unanswered
   pub answered : is_all_answered (Some end) ≡ true → unanswered ≡ []
+  pub unheard : is_unheard (Some end) ≡ true → (messages_in story ≡ []) × (unanswered ≢ [])
   pub refused : refusal ≡ refusal_by (Some end) last unanswered
   pub asked : AreAsked story
   pub quiet : AreOwnQuiet None story
@@ -99,6 +103,7 @@ stops c before had done later last b b' x x' l g owed over = record {
   unanswered = later;
   messages = ap (λ ms. ms ++ later) (sym l.messages);
   answered = λ is. absurd cc;
+  unheard = λ is. absurd cc;
   refused = refl;
   asked = l.asked;
   quiet = l.quiet;
@@ -121,8 +126,9 @@ pub closes : (c : Configured) (before : List Row) (had : List ℕ) (done : List 
     (last : List ℕ) (end : PeerEnd) (b b' : Book) (x x' : Session)
     → IsLiving c before had done b x → Grows b b' → x'.owed ≡ x.owed ++ last → x'.end ≡ Some end
     → last ≡ refusal_by (Some end) last [] → refusal_in (Some end) last ≡ last
-    → x'.talk.on ≡ x.talk.on → IsDone c before had done last end b' x'
-closes c before had done last end b b' x x' l g owed over refused whole_refusal on = record {
+    → is_unheard (Some end) ≡ false → x'.talk.on ≡ x.talk.on
+    → IsDone c before had done last end b' x'
+closes c before had done last end b b' x x' l g owed over refused whole_refusal heard on = record {
   story = l.story;
   refusal = last;
   late = g.more;
@@ -133,6 +139,7 @@ closes c before had done last end b b' x x' l g owed over refused whole_refusal 
   unanswered = [];
   messages = sym (append-nil (messages_in l.story) ∙ l.messages);
   answered = λ is. refl;
+  unheard = λ is. absurd (false≢true (sym heard ∙ is));
   refused = refused;
   asked = l.asked;
   quiet = l.quiet;
@@ -174,6 +181,7 @@ another_closes c before had done later m last b b' x x' l other g owed over on =
       unanswered = m ∷ later;
       messages = ap (λ ms. ms ++ m ∷ later) (sym l.messages);
       answered = λ is. absurd cc;
+      unheard = λ is. absurd cc;
       refused = refl;
       asked = l.asked;
       quiet = l.quiet;
@@ -196,15 +204,26 @@ another_closes c before had done later m last b b' x x' l other g owed over on =
       over = over;
     }
 
+-- before anybody has spoken there is no message
+served_then : (node : List ℕ) (story : List Happening) → peer_in (Some node) story ≢ None
+served_then node [] is = cc
+served_then node (Speaks m asked ∷ story) is = served_then node story is
+served_then node (Passes r ∷ story) is = served_then node story is
+
+nobody_spoke : (story : List Happening) → peer_in None story ≡ None → messages_in story ≡ []
+nobody_spoke [] is = refl
+nobody_spoke (Speaks m asked ∷ story) is = absurd (served_then m.from story is)
+nobody_spoke (Passes r ∷ story) is = nobody_spoke story is
+
 -- the first message isn't heard, and is told this
 unheard_closes : (c : Configured) (before : List Row) (had : List ℕ) (done later : List Telegram)
     (m : Telegram) (last text : List ℕ) (end : PeerEnd) (b b' : Book) (x x' : Session)
-    → IsLiving c before had done b x → Grows b b' → x'.owed ≡ x.owed ++ text
+    → IsLiving c before had done b x → x.talk.peer ≡ None → Grows b b' → x'.owed ≡ x.owed ++ text
     → x'.end ≡ Some end → is_all_answered (Some end) ≡ false → is_whole (Some end) ≡ false
     → text ≡ refusal_by (Some end) last (m ∷ later) → refusal_in (Some end) text ≡ []
     → IsDone c before had (done ++ m ∷ later) last end b' x'
-unheard_closes c before had done later m last text end b b' x x' l g owed over unanswered unsaid
-    refused none = record {
+unheard_closes c before had done later m last text end b b' x x' l nobody g owed over unanswered
+    unsaid refused none = record {
       story = l.story;
       refusal = text;
       late = g.more;
@@ -215,6 +234,7 @@ unheard_closes c before had done later m last text end b b' x x' l g owed over u
       unanswered = m ∷ later;
       messages = ap (λ ms. ms ++ m ∷ later) (sym l.messages);
       answered = λ is. absurd (false≢true (sym unanswered ∙ is));
+      unheard = λ is. (nobody_spoke l.story (sym l.peer ∙ nobody), λ no. cc);
       refused = refused;
       asked = l.asked;
       quiet = l.quiet;
@@ -237,17 +257,17 @@ unheard_closes c before had done later m last text end b b' x x' l g owed over u
 -- its originator may not speak there
 barred_closes : (c : Configured) (before : List Row) (had : List ℕ) (done later : List Telegram)
     (m : Telegram) (last : List ℕ) (memory : Bool) (t : Turn)
-    → IsLiving c before had done t.book t.session
+    → IsLiving c before had done t.book t.session → t.session.talk.peer ≡ None
     → (end : PeerEnd) × IsDone c before had (done ++ m ∷ later) last end
     (tell_last memory (number_text m ORIGINATOR_CHANGED) (ends.Barred m.from) t).book
     (tell_last memory (number_text m ORIGINATOR_CHANGED) (ends.Barred m.from) t).session
-barred_closes c before had done later m last true t l = (
+barred_closes c before had done later m last true t l nobody = (
   ends.Barred m.from,
   unheard_closes c before had done later m last (number_text m ORIGINATOR_CHANGED)
-      (ends.Barred m.from) t.book _ t.session _ l (left-grows t.session.talk.on t.book) refl refl
+      (ends.Barred m.from) t.book _ t.session _ l nobody (left-grows t.session.talk.on t.book) refl refl
       refl refl refl refl,
 )
-barred_closes c before had done later m last false t l = (
+barred_closes c before had done later m last false t l nobody = (
   no_memory,
   stops c before had done (m ∷ later) last t.book _ t.session _ l
       (left-grows t.session.talk.on t.book) refl refl,
@@ -256,11 +276,12 @@ barred_closes c before had done later m last false t l = (
 -- it has as many sessions as it may
 crowded_closes : (c : Configured) (before : List Row) (had : List ℕ) (done later : List Telegram)
     (m : Telegram) (last : List ℕ) (t : Turn) → IsLiving c before had done t.book t.session
+    → t.session.talk.peer ≡ None
     → IsDone c before had (done ++ m ∷ later) last (ends.Crowded m.from)
     (end_session (ends.Crowded m.from) t).book (end_session (ends.Crowded m.from) t).session
-crowded_closes c before had done later m last t l =
+crowded_closes c before had done later m last t l nobody =
     unheard_closes c before had done later m last [] (ends.Crowded m.from) t.book _ t.session _ l
-    (left-grows t.session.talk.on t.book) (sym (append-nil t.session.owed)) refl refl refl refl
+    nobody (left-grows t.session.talk.on t.book) (sym (append-nil t.session.owed)) refl refl refl refl
     refl
 
 -- ---- a message
@@ -414,10 +435,12 @@ all_admitted : (c : Configured) (before : List Row) (had : List ℕ) (done : Lis
 all_admitted c before had done last admits memory gs ms t l =
     by_admission (λ u. Came c before had (done ++ ms) (done ++ ms) last u.book u.session) admits
     memory gs ms t (all_answered c before had done last gs ms t l)
-    (λ m later is nobody. let closed = barred_closes c before had done later m last memory t l in
+    (λ m later is nobody.
+    let closed = barred_closes c before had done later m last memory t l nobody in
     inr (closed.0, rw (sym is) at closed.1))
     (λ m later is nobody.
-    inr (ends.Crowded m.from, rw (sym is) at (crowded_closes c before had done later m last t l)))
+    let closed = crowded_closes c before had done later m last t l nobody in
+    inr (ends.Crowded m.from, rw (sym is) at closed))
 
 -- ---- a piece
 
@@ -474,14 +497,15 @@ fed_is h sent piece holds =
 fault_told : (c : Configured) (before : List Row) (had : List ℕ) (done : List Telegram)
     (memory : Bool) (text : List ℕ) (end : PeerEnd) (t : Turn)
     → IsLiving c before had done t.book t.session → text ≡ refusal_by (Some end) text []
-    → refusal_in (Some end) text ≡ text → (e : PeerEnd) × IsDone c before had done text e (tell_last memory text end t).book
+    → refusal_in (Some end) text ≡ text → is_unheard (Some end) ≡ false
+    → (e : PeerEnd) × IsDone c before had done text e (tell_last memory text end t).book
     (tell_last memory text end t).session
-fault_told c before had done true text end t l refused whole = (
+fault_told c before had done true text end t l refused whole heard = (
   end,
   closes c before had done text end t.book _ t.session _ l (left-grows t.session.talk.on t.book)
-      refl refl refused whole refl,
+      refl refl refused whole heard refl,
 )
-fault_told c before had done false text end t l refused whole = (
+fault_told c before had done false text end t l refused whole heard = (
   no_memory,
   (let stopped = stops c before had done [] text t.book (end_session no_memory t).book t.session
       (end_session no_memory t).session l (left-grows t.session.talk.on t.book) refl refl in
@@ -501,7 +525,7 @@ refused c before had sent memory fault t is holds (inl l) =
     (λ none. inl (record { living = l; holds = holds; sound = is ∙ none }))
     (λ f some lasts.
     let told = fault_told c before had (stream_of sent).messages memory
-    (spelling (fault_message f)) (ends.Talk (talk.Stream f.fault)) t l refl refl in
+    (spelling (fault_message f)) (ends.Talk (talk.Stream f.fault)) t l refl refl refl in
     inr (told.0, rw (is ∙ some) told.1))
     (λ end over. absurd (ended_lasts t.session end over l.lasts))
 refused c before had sent memory fault t is holds (inr d) =
@@ -577,20 +601,27 @@ none_whole end = refl
 -- a session that lasts closes, and nothing more is told
 closed : (c : Configured) (before : List Row) (had sent : List ℕ) (end : PeerEnd) (b b' : Book)
     (x x' : Session) → IsHearing c before had sent b x → Grows b b' → x'.owed ≡ x.owed
-    → x'.end ≡ Some end → x'.talk.on ≡ x.talk.on → IsOverIn c before had sent b' x'
-closed c before had sent end b b' x x' h g owed over on = (
+    → x'.end ≡ Some end → is_unheard (Some end) ≡ false → x'.talk.on ≡ x.talk.on
+    → IsOverIn c before had sent b' x'
+closed c before had sent end b b' x x' h g owed over heard on = (
   end,
   rw h.sound
       (closes c before had (stream_of sent).messages [] end b b' x x' h.living g
-      (owed ∙ sym (append-nil x.owed)) over (none_refused end) (none_whole end) on),
+      (owed ∙ sym (append-nil x.owed)) over (none_refused end) (none_whole end) heard on),
 )
+
+-- a session whose octets end has heard its first message, if there was one
+ended_heard : (f : Option TalkFault) → is_unheard (Some (end_by f)) ≡ false
+ended_heard None = refl
+ended_heard (Some f) = refl
 
 pub finishes : (c : Configured) (before : List Row) (had sent : List ℕ) (t : Turn)
     → IsHearing c before had sent t.book t.session
     → IsOverIn c before had sent (finish t).book (finish t).session
 finishes c before had sent t h =
     closed c before had sent (end_by (left_over t.session.held.rest)) t.book (finish t).book
-    t.session (finish t).session h (left-grows t.session.talk.on t.book) refl refl refl
+    t.session (finish t).session h (left-grows t.session.talk.on t.book) refl refl
+    (ended_heard (left_over t.session.held.rest)) refl
 
 -- ---- rows of others
 
@@ -641,6 +672,7 @@ later_rows c before had all last end b b' x d g = record {
   unanswered = d.unanswered;
   messages = d.messages;
   answered = d.answered;
+  unheard = d.unheard;
   refused = d.refused;
   asked = d.asked;
   quiet = d.quiet;
@@ -699,7 +731,7 @@ row_passes c before had sent b x r h =
             let still = over_forgotten off behind ends.Behind refl in
             inr (closed c before had sent ends.Behind b after x (forget_till off behind) h
             (record { more = r ∷ []; rows = refl; same = refl })
-            (ap (λ (y : Session). y.owed) still) (ap (λ (y : Session). y.end) still)
+            (ap (λ (y : Session). y.owed) still) (ap (λ (y : Session). y.end) still) refl
             (ap (λ (y : Session). y.talk.on) still))
         by_test false =
             goes_on (record x { owed = x.owed ++ octets }) refl refl h.living.lasts

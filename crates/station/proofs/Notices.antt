@@ -47,7 +47,8 @@ with_notices-none (Some x ∷ peers) = ap (λ ps. Some x ∷ ps) (with_notices-n
 -- all that it may do is sign a till off
 unnoticed : (r : Row) (x : Session) → change_of r ≡ None → tell_row r x ≡ forget_till (row_off r) x
 unnoticed r x none =
-    ap (λ c. forget_till (row_off r) (tell_notice (notice_at c (listener x.end x.talk.peer)) x)) none
+    ap (λ c. forget_till (row_off r) (tell_notice (notice_at c (listener x.end x.talk.peer)) x))
+    none
 
 pub with_notices-unchanged : (r : Row) (peers : List (Option Session)) → change_of r ≡ None
     → row_off r ≡ None → with_notices (r ∷ []) peers ≡ peers

@@ -155,7 +155,8 @@ moved_back k slots _ taken _ put p x first one kept later two placed there out b
   items = with_items_is (with_items slots taken) put (placed ∙ two);
 }
 
-pub took : (k n : ℕ) (g : GateState) (b : Book) (peers out back : List (Option Session)) (p : Peer) (x : Session)
+pub took : (k n : ℕ) (g : GateState) (b : Book) (peers out back : List (Option Session))
+    (p : Peer) (x : Session)
     → Some (session_of p) ≡ peer_at peers k → out ≡ without_key k (Some p) peers
     → x ≡ record (session_of p) { owed = drop n p.outbox }
     → back ≡ with_peer k (Some x) out

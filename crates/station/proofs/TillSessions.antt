@@ -28,7 +28,7 @@ use Rattle.station.specs.declared.peer_end.PeerEnd.{PeerEnd}
 use Rattle.station.specs.Laws.{HasSession}
 use Rattle.station.specs.Gates.{GateState}
 use Rattle.station.specs.Moves.{StationState, rows_since, with_book, with_own_row, with_turn}
-use Rattle.station.specs.Moves.{without_old_rows}
+use Rattle.station.specs.Moves.{admits_at, without_old_rows}
 use Rattle.station.specs.Peers.{peer_at, tell_rows, till_off, with_notices}
 use Rattle.station.specs.Runs.{Move, after, after_move, opening_station}
 use Rattle.conversation.specs.Books.{outcome_at, with_outcome}
@@ -290,7 +290,8 @@ asked_for b on memory actor event t lasts spoken own grows all u signed =
         → is_signed_on (site_of_book (with_outcome actor event outcome t.book)) u ≡ true
         → IsSignedFor b on (after outcome) u
     by_outcome (Err no_row) made signed =
-        kept_for (Err no_row) (made_none t.book actor event (Err no_row) u (λ reply same. absurd cc))
+        kept_for (Err no_row) (made_none t.book actor event (Err no_row) u
+        (λ reply same. absurd cc))
         (λ its. its)
         (all u (ap (λ (rows : List Row). is_signed_on (site_of_book (record t.book { rows = rows })) u)
         (sym (append-nil t.book.rows)) ∙ signed))
@@ -352,7 +353,8 @@ elsewhere k y s u h here = by_key (k == h.key) refl
     }
 
 -- a session has still signed its till on when it was told of rows that don't sign it off
-abbrev has_told : (rows : List Row) (b : Book) (s : StationState) (u : ℕ) → AreOwn s → HasSession s u
+abbrev has_told : (rows : List Row) (b : Book) (s : StationState) (u : ℕ)
+    → AreOwn s → HasSession s u
     → NoneOff u rows
     → HasSession (record s { book = b; peers = with_notices rows s.peers }) u
 has_told rows b s u own h none =
@@ -394,18 +396,19 @@ turn_have k t s x here own its all u signed = by_whom (its u signed)
 have_lead : (k : ℕ) (s : StationState) → AreOwn s → TillsHave s → Leads TillsHave k s
 have_lead k s own all = record {
   stays = all;
-  comes = λ door none u signed.
+  comes = λ door none place u signed.
       let h = all u signed in
       elsewhere k (Some (opening_session door)) s u h
       (λ same. absurd (let no : None ≡ Some h.session =
       sym none ∙ ap (peer_at s.peers) same ∙ h.there in cc));
   turns = λ input x there lasts.
       let t = turn_at s x in
+      let admits = admits_at k x.door s in
       let start : IsTurnFor s.book x.talk.on t =
       (own_at s k x own there, grows_none s.book, start_for t lasts) in
-      let signed = heard_keeps (signed_for s.book x.talk.on) input t lasts start (λ piece. start)
-      in
-      turn_have k (after_input input t) s x there own signed.2 all;
+      let signed =
+      heard_keeps (signed_for s.book x.talk.on) admits input t lasts start (λ piece. start) in
+      turn_have k (after_input admits input t) s x there own signed.2 all;
   takes = λ n x there u signed.
       let h = all u signed in
       let later : Session = record x { owed = drop n x.owed } in

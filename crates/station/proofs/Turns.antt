@@ -38,7 +38,7 @@ pub record Grows (earlier later : Book) : Type 0 where
   pub rows : later.rows ≡ earlier.rows ++ more
   pub same : later.config ≡ earlier.config
 
-drop-front : (a b : List Row) → drop (length a) (a ++ b) ≡ b
+pub drop-front : (a b : List Row) → drop (length a) (a ++ b) ≡ b
 drop-front [] b = refl
 drop-front (r ∷ a) b = drop-front a b
 
@@ -142,11 +142,11 @@ pub refused-grows : (memory : Bool) (fault : Option StreamFault) (t : Turn)
 refused-grows memory fault t =
     refused_keeps (turns_grow t.book) memory fault t (grows_none t.book)
 
-pub input-grows : (input : Input) (t : Turn) → t.session.end ≡ None
-    → Grows t.book (after_input input t).book
-input-grows input t lasts =
+pub input-grows : (admits : List ℕ → Admission) (input : Input) (t : Turn)
+    → t.session.end ≡ None → Grows t.book (after_input admits input t).book
+input-grows admits input t lasts =
     let none = grows_none t.book in
-    heard_keeps (turns_grow t.book) input t lasts none (λ piece. none)
+    heard_keeps (turns_grow t.book) admits input t lasts none (λ piece. none)
 
 -- ---- messages one after another
 

@@ -9,7 +9,7 @@ use Rattle.station.specs.declared.gates.Admission.{Admission}
 use Rattle.station.specs.declared.gates.Admission.TheVariants as admissions
 use Rattle.station.specs.declared.sizes.TheConstants.{NODE_SESSIONS}
 use Rattle.station.specs.Sessions.{Session}
-use Rattle.station.specs.Listening.{is_at, listener}
+use Rattle.station.specs.Listening.{is_at, listener, speaker}
 
 -- the nodes that have doors, in their order, and the house till
 pub record GateState : Type 0 where
@@ -31,10 +31,10 @@ is_house (Some t) node = is_same_node (TILL_SUBNET ∷ t ∷ []) node
 abbrev pub has_door : GateState → List ℕ → Bool
 has_door g node = list_any (λ door. is_same_node door node) g.doors
 
--- a session of this node that lasts
+-- a session of this node that lasts: at a door also one that hasn't said anything yet
 abbrev pub is_session_at : List ℕ → Option Session → Bool
 is_session_at node None = false
-is_session_at node (Some x) = is_at (listener x.end x.talk.peer) node
+is_session_at node (Some x) = is_at (listener x.end (speaker x.door x.talk.peer)) node
 
 -- how many sessions of a node last
 abbrev pub count_at : List ℕ → List (Option Session) → ℕ

@@ -45,7 +45,8 @@ pub record IsOneHistory (g : GateState) (b : Book) (ms more : List Move) : Type 
       ≡ (after ms (opening_station g b)).book.rows ++ later
 
 abbrev pub RowsAreOneHistory : Type 0
-RowsAreOneHistory = (g : GateState) (b : Book) (ms more : List Move) → IsLegal (opening b.config) b.rows
+RowsAreOneHistory = (g : GateState) (b : Book) (ms more : List Move)
+    → IsLegal (opening b.config) b.rows
     → IsOneHistory g b ms more
 
 -- Right behind the move with which a session ends, the till that it signed on and didn't sign off
@@ -104,7 +105,8 @@ RequestsAreAskedInOrder = (s : StationState) → AreAskedInOrder s
 -- its row, whatever the octets are. For at most 1,031 octets are held of a message to come, and a
 -- message takes eight at least.
 abbrev pub StationsAreNeverFull : Type 0
-StationsAreNeverFull = (g : GateState) (b : Book) (ms : List Move) (k : ℕ) (x : Session) (memory : Grants)
+StationsAreNeverFull = (g : GateState) (b : Book) (ms : List Move)
+    (k : ℕ) (x : Session) (memory : Grants)
     (octets : List ℕ) (n : ℕ)
     → let s = after ms (opening_station g b) in
     let later = with_answers n memory octets (record { book = s.book; session = x }) in

@@ -9,9 +9,11 @@ pub mod Sessions
 pub mod Peers
 pub mod Moves
 pub mod Hearing
+pub mod Places
 pub mod Reads
 pub mod Room
 pub mod Runs
 pub mod Stories
 pub mod Adding
 pub mod Laws
+pub mod Neighbours

@@ -1,10 +1,12 @@
 -- What the station shows of a peer.
 use Rattle.std.specs.Prelude.{◌≡◌, ◌≢◌, ◌<◌, ◌≤◌, ℕ, Bool, false, List, [], Option}
-use Rattle.std.specs.Prelude.{Some, None, IsSome, ◌+◌, ◌*◌, slice_get}
+use Rattle.std.specs.Prelude.{Some, None, IsSome, ◌+◌, slice_get}
 use Rattle.station.specs.declared.peer_end.PeerEnd.{PeerEnd}
-use Rattle.station.specs.declared.sizes.TheConstants.{FREE_PLACES, NODE_SESSIONS, PEERS}
+use Rattle.station.specs.declared.sizes.TheConstants.{FREE_PLACES, PEERS}
 use Rattle.station.specs.Moves.{StationState, with_arrival}
+use Rattle.station.specs.Listening.{listener, speaker}
 use Rattle.station.specs.Peers.{peer_at}
+use Rattle.station.specs.Places.{first_place}
 use Rattle.station.specs.Sessions.{Session, is_read}
 
 abbrev pub owed_to : Option Session → List ℕ
@@ -54,6 +56,14 @@ node_of (Some x) = x.talk.peer
 abbrev pub node_at : StationState → ℕ → Option (List ℕ)
 node_at s k = node_of (peer_at s.peers k)
 
+abbrev pub speaker_of : Option Session → Option (List ℕ)
+speaker_of None = None
+speaker_of (Some x) = listener x.end (speaker x.door x.talk.peer)
+
+-- whom its session is of, while it lasts
+abbrev pub speaker_at : StationState → ℕ → Option (List ℕ)
+speaker_at s k = speaker_of (peer_at s.peers k)
+
 -- A peer arrived at this door, or at none, and got a key of these places, from the first one and
 -- before the last, which nobody had; or nothing changed, since each of them is taken.
 abbrev pub ArrivesAmong : ℕ → ℕ → Option (List ℕ) → Option ℕ → StationState → StationState → Type 0
@@ -66,10 +76,6 @@ ArrivesAmong first last door None old new =
 -- .. without a door
 abbrev pub Arrives : Option ℕ → StationState → StationState → Type 0
 Arrives key old new = ArrivesAmong 0 FREE_PLACES None key old new
-
--- the first of a door's places; door after door, each has four
-abbrev pub first_place : ℕ → ℕ
-first_place door = FREE_PLACES + NODE_SESSIONS * door
 
 -- .. at a door, where the station has so many
 abbrev pub arrives_at : Option (List ℕ) → ℕ → Option ℕ → StationState → StationState → Type 0

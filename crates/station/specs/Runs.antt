@@ -1,18 +1,20 @@
 -- Lists of moves, from an opening station on: who sent what, and what was told.
-use Rattle.std.specs.Prelude.{◌≡◌, ℕ, ◌==◌, Bool, true, false, List, [], ◌∷◌, ◌++◌, take}
-use Rattle.std.specs.Prelude.{Option, Some, None, if◌then◌else◌}
+use Rattle.std.specs.Prelude.{◌≡◌, ℕ, ◌==◌, Bool, true, false, nat_lt, List, [], ◌∷◌, ◌++◌, take}
+use Rattle.std.specs.Prelude.{Option, Some, None, if◌then◌else◌, slice_get}
 use Rattle.site_book.specs.Book.{Book}
+use Rattle.station.specs.declared.sizes.TheConstants.{FREE_PLACES}
 use Rattle.station.specs.Moves.{StationState, with_arrival, with_end, with_octets, with_taken}
 use Rattle.station.specs.Gates.{GateState}
 use Rattle.station.specs.Moves.{end_release, lose, without_old_rows, without_peer}
 use Rattle.station.specs.Peers.{peer_at}
+use Rattle.station.specs.Places.{is_place_at}
 use Rattle.station.specs.Reads.{is_read_at, owed_at}
 use Rattle.station.specs.Sessions.{Grants, Session}
 
--- What may come next; where memory is wanting while octets are heard, or for a row of the
--- station's own, the move says it.
+-- What may come next. A peer arrives at a door, by its place among the doors, or without one. Where
+-- memory is wanting while octets are heard, or for a row of the station's own, the move says it.
 pub data Move : Type 0 where
-  Arrives : (key : ℕ) (door : Option (List ℕ)) → Move
+  Arrives : (key : ℕ) (door : Option ℕ) → Move
   Says : (memory : Grants) (key : ℕ) (octets : List ℕ) → Move
   Takes : (key : ℕ) (n : ℕ) → Move
   Finishes : (key : ℕ) → Move
@@ -21,14 +23,24 @@ pub data Move : Type 0 where
   Loses : (memory : Bool) (p : ℕ) → Move
   Forgets : Move
 
--- a key that nobody has is given
-abbrev pub arrive : ℕ → Option (List ℕ) → Option Session → StationState → StationState
-arrive k door None s = with_arrival k door s
-arrive k door (Some x) s = s
+-- a key is given that nobody has, if it is a place there
+abbrev pub give : Bool → ℕ → Option (List ℕ) → Option Session → StationState → StationState
+give true k door None s = with_arrival k door s
+give is_place k door peer s = s
+
+-- .. of this door, if it is there
+abbrev pub give_at : ℕ → ℕ → Option (List ℕ) → StationState → StationState
+give_at k door None s = s
+give_at k door (Some node) s = give (is_place_at door k) k (Some node) (peer_at s.peers k) s
+
+-- a peer comes at a door, or without one
+abbrev pub arrive : ℕ → Option ℕ → StationState → StationState
+arrive k None s = give (nat_lt k FREE_PLACES) k None (peer_at s.peers k) s
+arrive k (Some door) s = give_at k door (slice_get s.gates.doors door) s
 
 -- the station after a move
 abbrev pub after_move : Move → StationState → StationState
-after_move (Arrives k door) s = arrive k door (peer_at s.peers k) s
+after_move (Arrives k door) s = arrive k door s
 after_move (Says memory k octets) s = with_octets memory k octets s
 after_move (Takes k n) s = with_taken k n s
 after_move (Finishes k) s = with_end k s

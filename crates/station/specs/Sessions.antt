@@ -178,8 +178,8 @@ all_granted = record { piece = true; messages = []; first = true; refusal = true
 -- ---- a session's first message
 
 -- The first message of a session is answered, and those behind it; or its originator may not speak
--- there, and is told so; or it has as many sessions as it may, and is told nothing. Then the session
--- ends.
+-- there, and is told so; or it has as many sessions as it may, and is told nothing. Then the
+-- session ends.
 abbrev pub admit_first : Admission → Bool → List Granted → Telegram → List Telegram → Turn → Turn
 admit_first admissions.Welcome memory gs m ms t = answer_all gs (m ∷ ms) t
 admit_first admissions.Barred memory gs m ms t =

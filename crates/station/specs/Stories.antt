@@ -3,7 +3,8 @@
 -- The story of a peer is what happened at the station while its session lasted, in order: each of
 -- its messages, and each row that wasn't made by one of them. Three readings of a story are the
 -- session text, the rows, and what the peer is told.
-use Rattle.std.specs.Prelude.{◌≡◌, ℕ, Bool, true, false, List, [], ◌∷◌, ◌++◌, map, Option, Some}
+use Rattle.std.specs.Prelude.{◌≡◌, ◌≢◌, ℕ, Bool, true, false, List, [], ◌∷◌, ◌++◌, map, Option}
+use Rattle.std.specs.Prelude.{Some}
 use Rattle.std.specs.Prelude.{None, Ok, Err}
 use Rattle.site_base.specs.declared.actor.Actor.{Actor}
 use Rattle.site_base.specs.declared.event.Event.{Event}
@@ -138,6 +139,12 @@ is_all_answered (Some (ends.Barred node)) = false
 is_all_answered (Some (ends.Crowded node)) = false
 is_all_answered end = true
 
+-- The first message wasn't heard: its originator wasn't admitted.
+abbrev pub is_unheard : Option PeerEnd → Bool
+is_unheard (Some (ends.Barred node)) = true
+is_unheard (Some (ends.Crowded node)) = true
+is_unheard end = false
+
 -- What a session that ended so is told last, by the refusal of its stream and the messages that
 -- weren't answered: another originator that it is another, and so one that may not speak there; a
 -- fault of the stream its refusal; else nothing.
@@ -162,14 +169,16 @@ refusal_in end refusal = refusal
 -- What is said in the story is the session text of what was heard, with the answers that its
 -- requests were given, all its requests were asked, and the session is signed on as the till that
 -- they, and the rows of others, leave signed on; where memory was wanting, or the first message
--- wasn't heard, a front of the text and of the requests. The notices in the story are those that
--- are due.
+-- wasn't heard, a front of the text and of the requests. Where the first message wasn't heard, no
+-- message is in the story, and this one is the first that wasn't answered. The notices in the story
+-- are those that are due.
 pub record IsTold (c : Configured) (before after : List Row) (heard octets : List ℕ)
     (on : Option ℕ) (end : Option PeerEnd) : Type 0 where
   pub story : List Happening
   pub unanswered : List Telegram
   pub messages : (stream_of heard).messages ≡ messages_in story ++ unanswered
   pub answered : is_all_answered end ≡ true → unanswered ≡ []
+  pub unheard : is_unheard end ≡ true → (messages_in story ≡ []) × (unanswered ≢ [])
   pub asked : AreAsked story
   pub late : List Row
   pub rows : after ≡ before ++ rows_in story ++ late

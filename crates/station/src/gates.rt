@@ -5,6 +5,7 @@ ghost use Rattle.std.specs.Prelude.{option_map, slice_get};
 ghost use Rattle.station.specs.declared.sizes.TheConstants.{DOORS};
 ghost use Rattle.station.specs.Gates.{admission, admission_at, count_at, has_door, is_house};
 ghost use Rattle.station.specs.Gates.{is_session_at, open_gates, with_door};
+ghost use Rattle.station.specs.Listening.{is_at};
 ghost use Rattle.station.specs.PeerViews.{session_of, sessions_of};
 
 use crate::paper::is_same_node;
@@ -166,12 +167,22 @@ pub(crate) fn count_sessions(slots: &[Option<Peer>], node: [u8; 2]) -> usize
         .count()
 }
 
+/// Is somebody at this node?
+fn is_at(speaker: Option<[u8; 2]>, node: [u8; 2]) -> bool
+    ensures { result ≡ is_at speaker node }
+{
+    match speaker {
+        Some(peer) => is_same_node(peer, node),
+        None => false,
+    }
+}
+
 /// Is it a session of this node that lasts?
 fn is_session_of(slot: &Option<Peer>, node: [u8; 2]) -> bool
     ensures { result ≡ is_session_at node (option_map session_of slot.now) }
 {
     match slot {
-        Some(peer) => peer.listens_at(node),
+        Some(peer) => is_at(peer.speaker(), node),
         None => false,
     }
 }

@@ -5,6 +5,9 @@ ghost use Rattle.station.specs.Laws.{PeersLeaveTheirTill, RequestsAreAskedInOrde
 ghost use Rattle.station.specs.Laws.{RowsAreOneHistory, StandingNoticesAreChanges};
 ghost use Rattle.station.specs.Laws.{StandingNoticesTellWhatWasMissed, StationsAreNeverFull};
 ghost use Rattle.station.specs.Laws.{TillsHaveSessions};
+ghost use Rattle.station.specs.Neighbours.{DoorsStayOpen, EndsSpareTillsOfOthers};
+ghost use Rattle.station.specs.Neighbours.{RequestsCostOctets, RowsComeThroughTheirDoor};
+ghost use Rattle.station.specs.Neighbours.{TheStationActsAloneSo};
 
 /// A peer is told its story: the session text of what was heard of it, with the answers that its
 /// requests were given, and between the notices of its point, each in its place.
@@ -52,4 +55,32 @@ pub fn standing_notices_are_changes()
 /// what one knows that has listened since the day's beginning.
 pub fn standing_notices_tell_what_was_missed()
     ensures { StandingNoticesTellWhatWasMissed }
+{}
+
+/// Each row of a node that has a door was heard at that door, or is its session's sign-off, or is
+/// one of the station's own.
+pub fn rows_come_through_their_door()
+    ensures { RowsComeThroughTheirDoor }
+{}
+
+/// What no session asked for are sign-offs, the house till's rows at released points, and Offline
+/// of dispensers without a session.
+pub fn the_station_acts_alone_so()
+    ensures { TheStationActsAloneSo }
+{}
+
+/// The requests of a stream are at most a tenth of its octets.
+pub fn requests_cost_octets()
+    ensures { RequestsCostOctets }
+{}
+
+/// At a door with fewer than four peers an arrival has a place.
+pub fn doors_stay_open()
+    ensures { DoorsStayOpen }
+{}
+
+/// The end of a session signs off at most the till that it signed on last, and that nobody has
+/// signed off since.
+pub fn ends_spare_tills_of_others()
+    ensures { EndsSpareTillsOfOthers }
 {}

@@ -24,9 +24,11 @@ mod station;
 
 pub use gates::{Admission, Gates};
 pub use laws::{
-    each_peer_is_told_its_story, ends_leave_their_till, peers_leave_their_till,
-    requests_are_asked_in_order, rows_are_one_history, standing_notices_are_changes,
-    standing_notices_tell_what_was_missed, stations_are_never_full, tills_have_sessions,
+    doors_stay_open, each_peer_is_told_its_story, ends_leave_their_till,
+    ends_spare_tills_of_others, peers_leave_their_till, requests_are_asked_in_order,
+    requests_cost_octets, rows_are_one_history, rows_come_through_their_door,
+    standing_notices_are_changes, standing_notices_tell_what_was_missed, stations_are_never_full,
+    the_station_acts_alone_so, tills_have_sessions,
 };
 pub use peer_end::PeerEnd;
 pub use sizes::{

@@ -2,7 +2,7 @@
 
 ghost use Rattle.std.specs.Prelude.{◌≡◌, ◌≤◌, None, Some, length, is_none, IfOk};
 ghost use Rattle.station.specs.declared.sizes.TheConstants.{NOTICE_OCTETS};
-ghost use Rattle.station.specs.Listening.{is_at, listener};
+ghost use Rattle.station.specs.Listening.{is_at, listener, speaker};
 ghost use Rattle.station.specs.PeerViews.{session_of};
 ghost use Rattle.station.specs.Peers.{forget_till, tell_notice};
 ghost use Rattle.station.specs.Sessions.{is_read, opening_session};
@@ -63,6 +63,18 @@ impl Peer {
         match (self.end, self.talk.peer()) {
             (None, Some(peer)) => is_same_node(peer, node),
             _ => false,
+        }
+    }
+
+    /// Whom its session is of while it lasts: at a door its node, from the beginning; without a
+    /// door the originator of its first message.
+    pub(crate) fn speaker(&self) -> Option<[u8; 2]>
+        ensures { result ≡ listener self.now.end (speaker self.now.door self.now.talk.peer) }
+    {
+        match (self.end, self.door) {
+            (Some(_), _) => None,
+            (None, Some(node)) => Some(node),
+            (None, None) => self.talk.peer(),
         }
     }
 

@@ -10,7 +10,7 @@ ghost use Rattle.station.specs.Moves.{without_old_rows, without_peer};
 ghost use Rattle.station.specs.Peers.{peer_at};
 ghost use Rattle.station.specs.Reads.{Arrives, ArrivesAmong, ArrivesAt, IsNextOwed, NoneIsOwed};
 ghost use Rattle.station.specs.Reads.{end_at, is_read_at};
-ghost use Rattle.station.specs.Reads.{node_at, owed_at};
+ghost use Rattle.station.specs.Reads.{node_at, owed_at, speaker_at};
 ghost use Rattle.station.specs.Runs.{opening_station};
 ghost use Rattle.station.specs.Sessions.{Grants, without_till};
 
@@ -32,8 +32,8 @@ use std::marker::Model;
 ///
 /// Whoever has the connections makes the moves: a peer arrives, its octets are heard, however they
 /// are cut, what it is owed is taken, its octets end, it leaves. And the station itself acts: the
-/// house till ends a release, or a dispenser is gone. Each move is exact; where memory is wanting at
-/// a message, the request makes no row, or this one session ends, and no other.
+/// house till ends a release, or a dispenser is gone. Each move is exact; where memory is wanting
+/// at a message, the request makes no row, or this one session ends, and no other.
 #[derive(Drop)]
 pub struct Station {
     alloc: Global,
@@ -109,8 +109,8 @@ impl Station {
         unpaid.forget_rows(self.alloc, &mut self.book)
     }
 
-    /// A peer arrives without a door, and gets a key below 1,024 that no other has; None where all of
-    /// these are taken. Nothing changes then, and where memory is wanting.
+    /// A peer arrives without a door, and gets a key below 1,024 that no other has; None where all
+    /// of these are taken. Nothing changes then, and where memory is wanting.
     pub fn arrive(&mut self) -> Result<Option<usize>, NoMemory>
         ensures ok { IfOk result (λ key. Arrives key self.old self.new) }
         ensures err { OnErr result (self.new ≡ self.old) }
@@ -118,8 +118,8 @@ impl Station {
         self.arrive_among(0, FREE_PLACES, None)
     }
 
-    /// A peer arrives at the door of this place among the doors, and gets one of its four keys; None
-    /// where each has a peer, and where there is no such door. Nothing changes then, and where
+    /// A peer arrives at the door of this place among the doors, and gets one of its four keys;
+    /// None where each has a peer, and where there is no such door. Nothing changes then, and where
     /// memory is wanting.
     pub fn arrive_at(&mut self, door: usize) -> Result<Option<usize>, NoMemory>
         ensures ok { IfOk result (λ key. ArrivesAt door key self.old self.new) }
@@ -259,7 +259,19 @@ impl Station {
         }
     }
 
-    /// How many sessions of a node last.
+    /// Whom a session that lasts is of: at a door its node, from the beginning, without one the
+    /// originator of its first message. None before that, of a session that has ended, and without
+    /// a peer.
+    pub fn speaker(&self, key: usize) -> Option<[u8; 2]>
+        ensures { result ≡ speaker_at self.now key }
+    {
+        match find_peer(&self.slots, key) {
+            Some(peer) => peer.speaker(),
+            None => None,
+        }
+    }
+
+    /// How many sessions of a node last, at its door also those that haven't said anything yet.
     pub fn session_count(&self, node: [u8; 2]) -> usize
         ensures { result ≡ count_at node self.now.peers }
     {
@@ -267,8 +279,8 @@ impl Station {
     }
 
     /// The house till ends the release of a point, if there is a house till and the point is
-    /// released: the rows SignOn, Terminate, SignOff. A fuelling that has started stays. Where memory
-    /// is wanting for a row, there is none.
+    /// released: the rows SignOn, Terminate, SignOff. A fuelling that has started stays. Where
+    /// memory is wanting for a row, there is none.
     pub fn end_release(&mut self, p: FpNo)
         ensures { (on : Bool) × (off : Bool) × (self.new ≡ end_release on off p self.old) }
     {
@@ -296,8 +308,8 @@ impl Station {
         sign_off(&mut self.book, &mut self.slots, till);
     }
 
-    /// The dispenser of a point is gone, if no session of it lasts: the row Offline. Where memory is
-    /// wanting, there is none.
+    /// The dispenser of a point is gone, if no session of it lasts: the row Offline. Where memory
+    /// is wanting, there is none.
     pub fn lose_dispenser(&mut self, p: FpNo)
         ensures { (memory : Bool) × (self.new ≡ lose memory p self.old) }
     {

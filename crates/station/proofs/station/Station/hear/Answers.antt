@@ -33,7 +33,8 @@ returns-in-Some c =
     omega (arith, c.deref_mut-in-Some-2.ensures.len, c.put_peer.auto.slots) in
     let known = rw (← c.self.view_is) at (sym c.is_read.ensures ∙ c.if-not-is_read.false) in
     let read : is_read (session_of c.in-Some.peer) ≡ true = ap is_read_of there ∙ known in
-    let found = heard_there c.args.key c.self.inside.gates c.args.octets.now c.self.inside.book c.hear.new.book
+    let found = heard_there c.args.key c.self.inside.gates c.args.octets.now
+    c.self.inside.book c.hear.new.book
     (sessions_of slots.items) (sessions_of c.take_peer.new.slots) (sessions_of c.hear.new.others)
     (sessions_of c.put_peer.new.slots) c.in-Some.peer c.hear.new.peer there out read hears put in
     heard_seen c.args.key c.args.octets.now _ _ _ _
