@@ -1,15 +1,19 @@
 -- Moves of a station, one after another.
 use Rattle.std.proofs.Common.{◌≡◌, ℕ, List, [], ◌∷◌, ◌++◌, Option, Some, None, refl, sym, ap, ◌∙◌}
-use Rattle.std.proofs.Common.{◌+◌, Bool, arith, inl, inr, subst, true}
-use Rattle.std.specs.Prelude.{slice_get}
+use Rattle.std.proofs.Common.{◌+◌, ◌<◌, ◌≤◌, Bool, arith, false, inl, inr, subst, true}
+use Rattle.std.specs.Prelude.{nat_lt, slice_get}
+use Rattle.std.proofs.lemmas.Bool.Decides.{nat_tests}
 use Rattle.station.specs.declared.sizes.TheConstants.{FREE_PLACES}
-use Rattle.station.specs.Moves.{StationState, end_release, lose, with_end, with_taken}
+use Rattle.station.specs.Moves.{StationState, end_release, lose, with_arrival, with_end}
+use Rattle.station.specs.Moves.{with_taken}
 use Rattle.station.specs.Moves.{without_peer}
-use Rattle.station.specs.Reads.{Arrives as GetsKey, ArrivesAmong, ArrivesAt, arrives_at}
-use Rattle.station.specs.Reads.{first_place, is_read_at}
+use Rattle.station.specs.Peers.{peer_at}
+use Rattle.station.specs.Places.{first_place, is_place_at}
+use Rattle.station.specs.Reads.{Arrives as GetsKey, ArrivesAt, arrives_at, is_read_at}
 use Rattle.station.specs.Runs.{Arrives, EndsRelease, Finishes, Forgets, Leaves, Loses, Move, Says}
 use Rattle.station.specs.Runs.{Takes, after}
-use Rattle.station.specs.Runs.{after_move, arrive}
+use Rattle.station.specs.Runs.{after_move, give, give_at}
+use Rattle.station.specs.Sessions.{Session}
 use Rattle.journal.specs.Memory.{HasRoomToHear, IsSameOrForgets}
 use Rattle.journal.specs.Stored.{StoredState, with_station}
 use Rattle.connection_calls.specs.declared.call.Call.{Call}
@@ -69,25 +73,43 @@ pub still_read : (k : ℕ) (s t : StationState) → IsSameOrForgets s t → is_r
 still_read k s t (inl same) read = ap (λ (x : StationState). is_read_at x k) same ∙ read
 still_read k s t (inr forgets) read = ap (λ (x : StationState). is_read_at x k) forgets ∙ read
 
--- a peer came, if there was a key for it
-reaches_among : (first last : ℕ) (door : Option (List ℕ)) (key : Option ℕ) (s t : StationState)
-    → ArrivesAmong first last door key s t → Reaches s t
-reaches_among first last door None s t gets = reaches_same s t gets.0
-reaches_among first last door (Some k) s t gets =
-    reaches_by (Arrives k door) s t tt (gets.3 ∙ ap (λ x. arrive k door x s) (sym gets.2))
+-- a key that is a place there, and that nobody has, is given
+given_is : (is_place : Bool) (k : ℕ) (node : Option (List ℕ)) (y : Option Session)
+    (s : StationState)
+    → is_place ≡ true → y ≡ None → give is_place k node y s ≡ with_arrival k node s
+given_is true k node None s place none = refl
+given_is true k node (Some x) s place none = absurd cc
+given_is false k node y s place none = absurd cc
 
+free_place : (k : ℕ) → k < FREE_PLACES → nat_lt k FREE_PLACES ≡ true
+free_place k below = grind (arith, nat_tests)
+
+place_at : (door k : ℕ) → first_place door ≤ k → k < first_place (door + 1)
+    → is_place_at door k ≡ true
+place_at door k low high = grind (arith, nat_tests)
+
+-- a peer came, if there was a key for it
 pub reaches_arrival : (key : Option ℕ) (s t : StationState) → GetsKey key s t → Reaches s t
-reaches_arrival key s t gets = reaches_among 0 FREE_PLACES None key s t gets
+reaches_arrival None s t gets = reaches_same s t gets.0
+reaches_arrival (Some k) s t gets =
+    reaches_by (Arrives k None) s t tt
+    (gets.3 ∙ sym (given_is (nat_lt k FREE_PLACES) k None (peer_at s.peers k) s
+    (free_place k gets.1) gets.2))
 
 -- .. at a door
 pub reaches_door : (door : ℕ) (key : Option ℕ) (s t : StationState) → ArrivesAt door key s t
     → Reaches s t
-reaches_door door key s t = by_node (slice_get s.gates.doors door)
+reaches_door door key s t = by_node (slice_get s.gates.doors door) refl key
   where
-    by_node : (node : Option (List ℕ)) → arrives_at node door key s t → Reaches s t
-    by_node None gets = reaches_same s t gets.1
-    by_node (Some node) gets =
-        reaches_among (first_place door) (first_place (door + 1)) (Some node) key s t gets
+    by_node : (node : Option (List ℕ)) → slice_get s.gates.doors door ≡ node → (key : Option ℕ)
+        → arrives_at node door key s t → Reaches s t
+    by_node None is key gets = reaches_same s t gets.1
+    by_node (Some node) is None gets = reaches_same s t gets.0
+    by_node (Some node) is (Some k) gets =
+        reaches_by (Arrives k (Some door)) s t tt
+        (gets.3 ∙ sym (ap (λ n. give_at k door n s) is
+        ∙ given_is (is_place_at door k) k (Some node) (peer_at s.peers k) s
+        (place_at door k gets.0 gets.1) gets.2))
 
 -- the station itself acts
 pub reaches_released : (on off : Bool) (p : ℕ) (s t : StationState) → t ≡ end_release on off p s

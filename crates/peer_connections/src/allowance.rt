@@ -11,7 +11,8 @@ const OCTETS_A_ROW: u64 = 10;
 /// Parts of an octet: a rate of one octet a second saves up one in a microsecond.
 const PARTS: u64 = 1_000_000;
 
-/// What may be read of a session: its octets are saved up for a second.
+/// What may be read of a session: what isn't read is saved up for a second. A new session has saved
+/// up nothing.
 #[derive(Clone, Copy, Debug)]
 pub(crate) struct Allowance {
     /// So many octets are saved up in a second; 0: all may be read.
@@ -23,13 +24,13 @@ pub(crate) struct Allowance {
 }
 
 impl Allowance {
-    /// What may be read of a session that makes so many rows a second at most, 0 for no limit: one
-    /// second's octets are saved up.
+    /// What may be read of a session that begins now, and makes so many rows a second at most; 0 is
+    /// no limit.
     pub(crate) fn new(rows_a_second: u64, now: Instant) -> Allowance {
         let octets_a_second = rows_a_second.saturating_mul(OCTETS_A_ROW);
         Allowance {
             octets_a_second,
-            saved: octets_a_second.saturating_mul(PARTS),
+            saved: 0,
             filled_at: now,
         }
     }

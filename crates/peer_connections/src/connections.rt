@@ -11,43 +11,43 @@ ghost use Rattle.peer_connections.specs.Reaches.{Reaches};
 use crate::change_watch::ChangeWatch;
 use crate::due_list::DueList;
 use crate::link::{Channel, Link};
-use crate::naming::{EndedSession, PeerName};
-use crate::peer_stream::PeerStream;
+use crate::naming::EndedSession;
 use crate::shift_warning::warn_of_last_shifts;
-use crate::sizes::{CLOSING_SECONDS, FIRST_MESSAGE_SECONDS, HOLD_MILLISECONDS, TAKING_SECONDS};
 use crate::upkeep::{Patience, Upkeep};
-use device_map::dispenser;
 use journal::{ChapterEnd, Disk, DiskFault, StoredStation};
 use mio::Registry;
-use mio::net::{TcpStream, UnixStream};
-use site_base::{FpNo, NoMemory, POINTS, PointSet, PointState};
+use site_base::NoMemory;
 use site_book::{NamedSale, SiteBook};
 use stamps::Stamp;
-use station::{FREE_PLACES, HEARD_OCTETS, NODE_SESSIONS, PEERS, PeerEnd};
+use station::{HEARD_OCTETS, PEERS, PeerEnd};
 use std::alloc::Global;
-use std::time::{Duration, Instant};
+use std::time::Instant;
 
 /// The connections by their peers' keys, and the station with its journal.
 #[derive(Drop)]
 pub struct Connections<D: Disk> {
     pub(crate) stored: StoredStation<D>,
-    links: Vec<Option<Link>>,
-    piece: Vec<u8>,
+    pub(crate) links: Vec<Option<Link>>,
+    pub(crate) piece: Vec<u8>,
     /// Those that are sent what they are owed at the end of this round.
-    due: DueList,
+    pub(crate) due: DueList,
     /// Whether a dispenser is told of a row, and those that are owed octets aren't sent them yet.
-    changes: ChangeWatch,
+    pub(crate) changes: ChangeWatch,
     /// A peer may be waited for that is left if it takes too long: for its first message, until it
     /// takes something, until it hangs up.
-    may_wait: bool,
+    pub(crate) may_wait: bool,
     /// A session makes so many rows a second at most; 0: as many as it likes.
-    rows_a_second: u64,
-    /// A session may be held back.
-    has_held_back: bool,
-    /// When sessions that were held back were last read on.
-    read_on_at: Option<Instant>,
+    pub(crate) rows_a_second: u64,
+    /// When a session that is held back is read on next; None if there is none.
+    pub(crate) read_on_at: Option<Instant>,
+    /// It is looked for from this key on, so that each has its turn.
+    pub(crate) read_on_from: usize,
     /// Since when dispensers are gone, and releases stand.
-    upkeep: Upkeep,
+    pub(crate) upkeep: Upkeep,
+    /// The time of the round, where the clock told it.
+    pub(crate) round_time: Option<Stamp>,
+    /// When the round began, by the clock that goes on while the station is stopped.
+    pub(crate) round_at: Option<Instant>,
     /// That the history's chapter goes on, since there can't be a next one, was said.
     has_told_refused: bool,
     /// That the clock went back was said.
@@ -79,9 +79,11 @@ impl<D: Disk> Connections<D> {
             changes,
             may_wait: false,
             rows_a_second,
-            has_held_back: false,
             read_on_at: None,
+            read_on_from: 0,
             upkeep: Upkeep::new(patience),
+            round_time: None,
+            round_at: None,
             has_told_refused: false,
             has_told_clock: false,
         })
@@ -194,6 +196,7 @@ impl<D: Disk> Connections<D> {
         ensures stored { is_all_stored self.new.stored ≡ is_all_stored self.old.stored }
         ensures clock { IfSome self.new.stored.journal (λ j. j.clock ≡ clock) }
     {
+        self.note_round(&clock, now);
         let is_behind = self.stored.begin_round(clock, now);
         if is_behind && !self.has_told_clock {
             self.has_told_clock = true;
@@ -203,165 +206,18 @@ impl<D: Disk> Connections<D> {
         }
     }
 
+    /// The round's time, and when it began.
+    fn note_round(&mut self, clock: &Option<Stamp>, now: Instant)
+        ensures { self.new.stored ≡ self.old.stored }
+    {
+        self.round_time = *clock;
+        self.round_at = Some(now);
+    }
+
     /// May there be a peer that is left if it takes too long: one that has brought no message, that
     /// is read from no more since it takes nothing, or whose session has ended?
     pub fn may_wait(&self) -> bool {
         self.may_wait
-    }
-
-    /// A peer has come over TCP. Where it gets no place, or memory is wanting, its connection is
-    /// closed.
-    #[tactic(auto, using(crate::proofs::Reaching::moved))]
-    pub fn welcome<E: Eprint>(
-        &mut self,
-        registry: &Registry,
-        rt: &E,
-        stream: TcpStream,
-        now: Instant,
-    )
-        ensures { Reaches self.old.stored.station self.new.stored.station }
-    {
-        if let Some(key) = self.find_place_or_say(rt, None) {
-            self.link(registry, key, PeerStream::Tcp(stream), now);
-        }
-    }
-
-    /// A peer has come through the door of this place among the doors, as `welcome` says.
-    #[tactic(auto, using(crate::proofs::Reaching::moved))]
-    pub fn welcome_at<E: Eprint>(
-        &mut self,
-        registry: &Registry,
-        rt: &E,
-        door: usize,
-        stream: UnixStream,
-        now: Instant,
-    )
-        ensures { Reaches self.old.stored.station self.new.stored.station }
-    {
-        if let Some(key) = self.find_place_or_say(rt, Some(door)) {
-            self.link(registry, key, PeerStream::Unix(stream), now);
-        }
-    }
-
-    /// A place for a peer that has come at this door, or over TCP. That there is none is said.
-    #[tactic(auto, using(crate::proofs::Reaching::moved))]
-    fn find_place_or_say<E: Eprint>(&mut self, rt: &E, door: Option<usize>) -> Option<usize>
-        ensures { Reaches self.old.stored.station self.new.stored.station }
-    {
-        match self.find_place(door) {
-            Ok(Some(key)) => Some(key),
-            Ok(None) => {
-                let _ = eprintln!(rt; "a connection was closed: all places are taken");
-                None
-            }
-            Err(NoMemory) => {
-                let _ = eprintln!(rt; "a connection was closed: fault 31: out of memory");
-                None
-            }
-        }
-    }
-
-    /// The peer that has come to this place has this connection.
-    #[tactic(auto, using(crate::proofs::Reaching::moved))]
-    fn link(&mut self, registry: &Registry, key: usize, stream: PeerStream, now: Instant)
-        ensures { Reaches self.old.stored.station self.new.stored.station }
-    {
-        let mut stream = stream;
-        stream.send_at_once();
-        let is_watched = stream.watch(registry, key).is_ok();
-        if is_watched && key < self.links.len() {
-            self.links[key] = Some(Link::new(stream, self.rows_a_second, now));
-            self.may_wait = true;
-        } else {
-            self.stored.leave(key);
-        }
-    }
-
-    /// A place for a peer that has come at this door, or over TCP. Where all of these are taken,
-    /// the peer of one leaves that has waited longest without a whole message: so those that say
-    /// nothing keep nobody out.
-    #[tactic(auto, using(crate::proofs::Reaching::moved))]
-    fn find_place(&mut self, door: Option<usize>) -> Result<Option<usize>, NoMemory>
-        ensures { Reaches self.old.stored.station self.new.stored.station }
-    {
-        if let Some(key) = self.arrive(door)? {
-            return Ok(Some(key));
-        }
-        let Some(longest) = self.find_longest_waiting(door) else {
-            return Ok(None);
-        };
-        self.remove(longest);
-        self.arrive(door)
-    }
-
-    /// A peer arrives at this door, or over TCP.
-    #[tactic(auto, using(crate::proofs::Reaching::moved))]
-    fn arrive(&mut self, door: Option<usize>) -> Result<Option<usize>, NoMemory>
-        ensures { Reaches self.old.stored.station self.new.stored.station }
-    {
-        match door {
-            None => self.arrive_over_tcp(),
-            Some(place) => self.arrive_at(place),
-        }
-    }
-
-    /// A peer arrives over TCP.
-    #[tactic(auto, using(crate::proofs::Reaching::moved))]
-    fn arrive_over_tcp(&mut self) -> Result<Option<usize>, NoMemory>
-        ensures { Reaches self.old.stored.station self.new.stored.station }
-    {
-        match self.stored.arrive() {
-            Ok(key) => Ok(key),
-            Err(NoMemory) => Err(NoMemory),
-        }
-    }
-
-    /// A peer arrives at the door of this place among the doors.
-    #[tactic(auto, using(crate::proofs::Reaching::moved))]
-    fn arrive_at(&mut self, place: usize) -> Result<Option<usize>, NoMemory>
-        ensures { Reaches self.old.stored.station self.new.stored.station }
-    {
-        match self.stored.arrive_at(place) {
-            Ok(key) => Ok(key),
-            Err(NoMemory) => Err(NoMemory),
-        }
-    }
-
-    /// The peer that has waited longest without a whole message, of those of this door, or of TCP.
-    fn find_longest_waiting(&self, door: Option<usize>) -> Option<usize> {
-        let (first, last) = match door {
-            None => (0, FREE_PLACES),
-            Some(place) => door_keys(place),
-        };
-        let mut longest: Option<(usize, Instant)> = None;
-        for key in first..last {
-            if let Some(since) = self.waiting_since(key) {
-                let is_longer = match longest {
-                    None => true,
-                    Some((_, earliest)) => since < earliest,
-                };
-                if is_longer {
-                    longest = Some((key, since));
-                }
-            }
-        }
-        let (key, _) = longest?;
-        Some(key)
-    }
-
-    /// Since when a peer waits without a whole message: since it came, and one whose session has
-    /// ended since then, or since it last took octets.
-    fn waiting_since(&self, key: usize) -> Option<Instant> {
-        let Some(Some(link)) = self.links.get(key) else {
-            return None;
-        };
-        if link.closing_since.is_some() {
-            return link.closing_since;
-        }
-        match self.stored.node(key) {
-            None if key < FREE_PLACES => Some(link.came_at),
-            _ => None,
-        }
     }
 
     /// A peer has sent something, or hung up. With `to_wait` it is read until its connection waits,
@@ -374,7 +230,7 @@ impl<D: Disk> Connections<D> {
         if let Some(Some(link)) = self.links.get_mut(key) {
             if link.closing_since.is_some() {
                 link.ignore(&mut self.piece);
-            } else if !link.is_held_back {
+            } else if link.held_until.is_none() {
                 let changes = &mut self.changes;
                 link.hear(
                     &mut self.stored,
@@ -384,8 +240,9 @@ impl<D: Disk> Connections<D> {
                     to_wait,
                     now,
                 )?;
-                if link.is_held_back {
-                    self.has_held_back = true;
+                let held_until = link.held_until;
+                if let Some(until) = held_until {
+                    self.note_hold(until);
                 }
                 if !self.stored.is_read(key) {
                     self.may_wait = true;
@@ -396,59 +253,11 @@ impl<D: Disk> Connections<D> {
         Ok(())
     }
 
-    /// If a peer that was heard is a dispenser, it is there.
-    fn note_dispenser(&mut self, key: usize)
-        ensures { self.new.stored ≡ self.old.stored }
-    {
-        if !self.upkeep.looks_for_lost() {
-            return;
-        }
-        if let Some(node) = self.stored.node(key) {
-            if let Some(p) = FpNo::new(node[1]) {
-                if dispenser(p)[0] == node[0] {
-                    self.upkeep.note_session(p);
-                }
-            }
-        }
-    }
-
-    /// Are there sessions that are held back?
-    pub fn has_held_back(&self) -> bool {
-        self.has_held_back
-    }
-
-    /// Sessions that were held back are read on, each tenth of a second: their connections are
-    /// reported once more.
-    pub fn read_on(&mut self, registry: &Registry, now: Instant)
-        ensures { self.new.stored ≡ self.old.stored }
-    {
-        if !self.has_held_back || !self.is_read_on_due(now) {
-            return;
-        }
-        self.has_held_back = false;
-        self.read_on_at = Some(now);
-        for key in 0..PEERS {
-            self.end_hold(registry, key);
-        }
-    }
-
-    /// Was long enough nobody read on?
-    fn is_read_on_due(&self, now: Instant) -> bool {
-        match self.read_on_at {
-            None => true,
-            Some(at) => now.duration_since(at) >= Duration::from_millis(HOLD_MILLISECONDS),
-        }
-    }
-
-    /// The session of a peer is held back no more.
-    fn end_hold(&mut self, registry: &Registry, key: usize)
-        ensures { self.new.stored ≡ self.old.stored }
-    {
-        if let Some(Some(link)) = self.links.get_mut(key) {
-            if link.is_held_back {
-                link.is_held_back = false;
-                link.stream.watch_again(registry, key);
-            }
+    /// Did reading from a peer stop before it was known to have no more?
+    pub fn is_unread(&self, key: usize) -> bool {
+        match self.links.get(key) {
+            Some(Some(link)) => link.is_unread,
+            _ => false,
         }
     }
 
@@ -456,8 +265,10 @@ impl<D: Disk> Connections<D> {
     pub fn unblock(&mut self, key: usize)
         ensures { self.new.stored ≡ self.old.stored }
     {
-        if let Some(Some(link)) = self.links.get_mut(key) {
-            link.is_full = false;
+        if let Some(slot) = self.links.get_mut(key) {
+            if let Some(link) = slot {
+                link.is_full = false;
+            }
         }
     }
 
@@ -475,6 +286,7 @@ impl<D: Disk> Connections<D> {
         ensures { self.new.stored ≡ self.old.stored }
     {
         self.changes.look(self.stored.book());
+        self.note_releases();
         if !self.changes.take() {
             return;
         }
@@ -490,6 +302,16 @@ impl<D: Disk> Connections<D> {
                 self.make_due(key);
             }
             from = key + 1;
+        }
+    }
+
+    /// The releases of this round stand since it began.
+    fn note_releases(&mut self)
+        ensures { self.new.stored ≡ self.old.stored }
+    {
+        let released = self.changes.take_released();
+        if let Some(now) = self.round_at {
+            self.upkeep.note_releases(released, now);
         }
     }
 
@@ -595,7 +417,7 @@ impl<D: Disk> Connections<D> {
         let is_read = self.stored.is_read(key);
         let is_owed = self.stored.is_owed(key);
         if let Some(Some(link)) = self.links.get_mut(key) {
-            let is_heard = is_read && !link.is_held_back;
+            let is_heard = is_read && link.held_until.is_none();
             let is_left = link.is_unread && (is_heard || link.closing_since.is_some());
             if is_left || is_owed && !link.is_full {
                 link.stream.watch_again(registry, key);
@@ -622,7 +444,7 @@ impl<D: Disk> Connections<D> {
     }
 
     /// The connection of a peer is one that closes; false where it was one.
-    fn note_closing(&mut self, key: usize, now: Instant) -> bool
+    pub(crate) fn note_closing(&mut self, key: usize, now: Instant) -> bool
         ensures { self.new.stored ≡ self.old.stored }
     {
         if let Some(Some(link)) = self.links.get_mut(key) {
@@ -658,7 +480,7 @@ impl<D: Disk> Connections<D> {
     }
 
     /// The connection of a peer is closed, and the peer leaves.
-    fn remove(&mut self, key: usize)
+    pub(crate) fn remove(&mut self, key: usize)
         ensures { self.new.stored.station ≡ without_peer key self.old.stored.station }
     {
         self.stored.leave(key);
@@ -687,172 +509,6 @@ impl<D: Disk> Connections<D> {
         }
         self.keep_up(now)?;
         self.send_due(registry, rt, now)
-    }
-
-    /// Does the station act by itself as time passes?
-    pub fn keeps_up(&self) -> bool {
-        self.upkeep.looks_for_lost() || self.stored.gates().house().is_some()
-    }
-
-    /// Dispensers that are gone for too long are lost, and releases that stand for too long end.
-    /// Their rows are looked at, and their notices are due.
-    #[tactic(auto, using(crate::proofs::Reaching::moved))]
-    fn keep_up(&mut self, now: Instant) -> Result<(), DiskFault>
-        ensures { Reaches self.old.stored.station self.new.stored.station }
-    {
-        if !self.keeps_up() {
-            return Ok(());
-        }
-        self.make_own_room()?;
-        let released = self.changes.take_released();
-        for number in 1..=POINTS {
-            self.look_at_point(number, released, now);
-        }
-        self.make_owed_due();
-        Ok(())
-    }
-
-    /// At a start no release of the day before stands: each ends, if there is a house till.
-    #[tactic(auto, using(crate::proofs::Reaching::moved))]
-    pub fn end_releases(&mut self) -> Result<(), DiskFault>
-        ensures { Reaches self.old.stored.station self.new.stored.station }
-    {
-        self.make_own_room()?;
-        for number in 1..=POINTS {
-            self.end_release_of(number);
-        }
-        Ok(())
-    }
-
-    /// The release of the point of this number ends, if it stands.
-    #[tactic(auto, using(crate::proofs::Reaching::moved))]
-    fn end_release_of(&mut self, number: u8)
-        ensures { Reaches self.old.stored.station self.new.stored.station }
-    {
-        if let Some(p) = FpNo::new(number) {
-            self.end_release(p);
-        }
-    }
-
-    /// Makes room for the rows of the station's own. The rows so far are looked at before they are
-    /// forgotten.
-    #[tactic(auto, using(crate::proofs::Reaching::moved))]
-    fn make_own_room(&mut self) -> Result<(), DiskFault>
-        ensures { Reaches self.old.stored.station self.new.stored.station }
-    {
-        self.changes.look(self.stored.book());
-        self.stored.make_room()
-    }
-
-    /// Is the dispenser of the point of this number lost, and has its release stood for too long? One
-    /// of these points was released anew.
-    #[tactic(auto, using(crate::proofs::Reaching::moved))]
-    fn look_at_point(&mut self, number: u8, released: PointSet, now: Instant)
-        ensures { Reaches self.old.stored.station self.new.stored.station }
-    {
-        let Some(p) = FpNo::new(number) else {
-            return;
-        };
-        let Some(view) = self.stored.book().point(p) else {
-            return;
-        };
-        let is_released = view.state == PointState::Authorised;
-        self.look_at_release(p, is_released, released.contains(p), now);
-        self.look_at_dispenser(p, now);
-    }
-
-    /// Has the release of a point, if there is one, stood for too long?
-    #[tactic(auto, using(crate::proofs::Reaching::moved))]
-    fn look_at_release(&mut self, p: FpNo, is_released: bool, is_new: bool, now: Instant)
-        ensures { Reaches self.old.stored.station self.new.stored.station }
-    {
-        if self.upkeep.is_stale(p, is_released, is_new, now) {
-            self.end_release(p);
-        }
-    }
-
-    /// Is the dispenser of a point lost?
-    #[tactic(auto, using(crate::proofs::Reaching::moved))]
-    fn look_at_dispenser(&mut self, p: FpNo, now: Instant)
-        ensures { Reaches self.old.stored.station self.new.stored.station }
-    {
-        if !self.upkeep.looks_for_lost() {
-            return;
-        }
-        let has_session = self.stored.session_count(dispenser(p)) > 0;
-        if self.upkeep.is_lost(p, has_session, now) {
-            self.lose_dispenser(p);
-        }
-    }
-
-    /// The house till ends the release of a point.
-    fn end_release(&mut self, p: FpNo)
-        ensures { Reaches self.old.stored.station self.new.stored.station }
-    {
-        self.stored.end_release(p);
-    }
-
-    /// The dispenser of a point is lost.
-    fn lose_dispenser(&mut self, p: FpNo)
-        ensures { Reaches self.old.stored.station self.new.stored.station }
-    {
-        self.stored.lose_dispenser(p);
-    }
-
-    /// The session of a peer ends, or its connection is closed, if it was waited for too long.
-    #[tactic(auto, using(crate::proofs::Reaching::moved))]
-    fn end_if_late<E: Eprint>(&mut self, rt: &E, key: usize, idle: Option<u64>, now: Instant)
-        ensures { Reaches self.old.stored.station self.new.stored.station }
-    {
-        match self.find_timeout(key, idle, now) {
-            Timeout::NotYet => {}
-            Timeout::Idle(seconds) => self.end_late(rt, key, "came", seconds, now),
-            Timeout::Stuck(seconds) => self.end_late(rt, key, "was taken", seconds, now),
-            Timeout::Soon => self.may_wait = true,
-            Timeout::Over => self.remove(key),
-        }
-    }
-
-    /// The session of a peer ends, of which nothing came for so many seconds, or that took nothing.
-    #[tactic(auto, using(crate::proofs::Reaching::moved))]
-    fn end_late<E: Eprint>(&mut self, rt: &E, key: usize, what: &str, seconds: u64, now: Instant)
-        ensures { Reaches self.old.stored.station self.new.stored.station }
-    {
-        let name = PeerName {
-            node: self.stored.node(key),
-        };
-        let _ = eprintln!(rt; "session of {name}: nothing {what} for {seconds} seconds");
-        self.stored.finish(key);
-        let _ = self.note_closing(key, now);
-        self.make_due(key);
-    }
-
-    /// Whether a peer was waited for too long.
-    fn find_timeout(&self, key: usize, idle: Option<u64>, now: Instant) -> Timeout {
-        let Some(Some(link)) = self.links.get(key) else {
-            return Timeout::NotYet;
-        };
-        if let Some(since) = link.closing_since {
-            return Timeout::over_if(is_over(since, CLOSING_SECONDS, now));
-        }
-        if !self.stored.is_read(key) {
-            let seconds = idle.unwrap_or(TAKING_SECONDS);
-            if is_over(link.still_since(), seconds, now) {
-                return Timeout::Stuck(seconds);
-            }
-            return Timeout::Soon;
-        }
-        match idle {
-            Some(seconds) if !link.is_unread && is_over(link.heard_at, seconds, now) => {
-                return Timeout::Idle(seconds);
-            }
-            _ => {}
-        }
-        // Whoever has come through a door takes no other node's place.
-        if self.stored.node(key).is_some() || key >= FREE_PLACES {
-            return Timeout::NotYet;
-        }
-        Timeout::over_if(is_over(link.came_at, FIRST_MESSAGE_SECONDS, now))
     }
 
     /// The day ends: each session ends, and what it is owed is sent as far as its connection takes
@@ -920,40 +576,4 @@ impl<D: Disk> Connections<D> {
             link.ignore(&mut self.piece);
         }
     }
-}
-
-/// Whether a peer was waited for too long.
-#[derive(Clone, Copy, Debug, PartialEq, Eq)]
-enum Timeout {
-    /// It wasn't.
-    NotYet,
-    /// Nothing came of it for so many seconds.
-    Idle(u64),
-    /// It took nothing for so many seconds, and isn't read from for that.
-    Stuck(u64),
-    /// Its session has ended, and its connection doesn't, or it has brought no whole message.
-    Over,
-    /// It wasn't yet, and will be if it does nothing.
-    Soon,
-}
-
-impl Timeout {
-    /// Over if it is so, else soon.
-    fn over_if(is_so: bool) -> Timeout {
-        if is_so { Timeout::Over } else { Timeout::Soon }
-    }
-}
-
-/// Have more than so many seconds passed since then? One more than a second's rounds: a peer that
-/// is heard in a round may be heard again before it is left, however long a round takes.
-fn is_over(since: Instant, seconds: u64, now: Instant) -> bool {
-    now.duration_since(since) > Duration::from_secs(seconds)
-}
-
-/// The keys of a door, by its place among the doors: the first, and the first that isn't.
-fn door_keys(place: usize) -> (usize, usize) {
-    let first = place
-        .saturating_mul(NODE_SESSIONS)
-        .saturating_add(FREE_PLACES);
-    (first, first.saturating_add(NODE_SESSIONS))
 }

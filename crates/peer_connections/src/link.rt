@@ -7,15 +7,20 @@ ghost use Rattle.peer_connections.specs.Reaches.{Reaches};
 use crate::allowance::Allowance;
 use crate::calls::{read_ignored, read_with_room, write_once};
 use crate::change_watch::ChangeWatch;
+use crate::held_back::after;
 use crate::peer_stream::PeerStream;
+use crate::sizes::{FIRST_HOLD_MILLISECONDS, HOLD_MILLISECONDS};
 use connection_calls::{CALLS_A_TURN, Call};
 use journal::{Disk, DiskFault, StoredStation};
+use stamps::Stamp;
 use std::time::Instant;
 
 /// A connection, and how far its session has come.
 #[derive(Drop)]
 pub(crate) struct Link {
     pub(crate) stream: PeerStream,
+    /// The time of the round in which the peer came, where the clock told it.
+    pub(crate) since: Option<Stamp>,
     /// When the peer came.
     pub(crate) came_at: Instant,
     /// When octets came last.
@@ -28,8 +33,8 @@ pub(crate) struct Link {
     pub(crate) is_unread: bool,
     /// How much of the session may be read.
     allowance: Allowance,
-    /// It isn't read from for now, since no more of the session may be read yet.
-    pub(crate) is_held_back: bool,
+    /// It isn't read from until then, since no more of the session may be read yet.
+    pub(crate) held_until: Option<Instant>,
     /// It takes no octets for now.
     pub(crate) is_full: bool,
     /// The peer was told that nothing more will come.
@@ -50,17 +55,24 @@ pub(crate) enum Channel {
 }
 
 impl Link {
-    /// The connection of a peer that has just come, and makes so many rows a second at most.
-    pub(crate) fn new(stream: PeerStream, rows_a_second: u64, now: Instant) -> Link {
+    /// The connection of a peer that has just come, in a round of this time, and makes so many rows
+    /// a second at most.
+    pub(crate) fn new(
+        stream: PeerStream,
+        rows_a_second: u64,
+        since: Option<Stamp>,
+        now: Instant,
+    ) -> Link {
         Link {
             stream,
+            since,
             came_at: now,
             heard_at: now,
             taken_at: now,
             closing_since: None,
             is_unread: false,
             allowance: Allowance::new(rows_a_second, now),
-            is_held_back: false,
+            held_until: None,
             is_full: false,
             is_shut: false,
             channel: Channel::Open,
@@ -93,7 +105,7 @@ impl Link {
             }
             let size = self.allowance.grant(piece.len(), now);
             if size == 0 {
-                self.is_held_back = true;
+                self.held_until = Some(end_of_hold(stored.node(key).is_some(), now));
                 return Ok(());
             }
             let part = &mut piece[..size];
@@ -196,4 +208,14 @@ impl Link {
             self.stream.shut();
         }
     }
+}
+
+/// When a session is read on that is held back now, and has brought a message, or none.
+fn end_of_hold(has_spoken: bool, now: Instant) -> Instant {
+    let milliseconds = if has_spoken {
+        HOLD_MILLISECONDS
+    } else {
+        FIRST_HOLD_MILLISECONDS
+    };
+    after(now, milliseconds)
 }

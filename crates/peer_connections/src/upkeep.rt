@@ -1,7 +1,7 @@
 //! What a station does by itself as time passes: dispensers that are gone, and releases that
 //! nobody used.
 
-use site_base::{FpNo, POINT_CELLS, PointSet};
+use site_base::{FpNo, POINT_CELLS, POINTS, PointSet};
 use std::time::Instant;
 
 /// How long a dispenser may be gone, and how long a release may stand.
@@ -44,8 +44,12 @@ impl Upkeep {
         self.lost.remove(p);
     }
 
-    /// The dispenser of a point has a session, or none: is it lost now? It is once, until it has
-    /// come back.
+    /// It was noted in a row that the dispenser of a point is lost.
+    pub(crate) fn note_lost(&mut self, p: FpNo) {
+        self.lost.insert(p);
+    }
+
+    /// The dispenser of a point has a session, or none: is it lost now, and was that not noted yet?
     pub(crate) fn is_lost(&mut self, p: FpNo, has_session: bool, now: Instant) -> bool {
         if has_session {
             self.note_session(p);
@@ -53,23 +57,26 @@ impl Upkeep {
         }
         let seconds = self.patience.lost_seconds;
         let is_lost = has_lasted(&mut self.gone_since[p.cell()], seconds, now);
-        if !is_lost || self.lost.contains(p) {
-            return false;
-        }
-        self.lost.insert(p);
-        true
+        is_lost && !self.lost.contains(p)
     }
 
-    /// A point is released, or isn't: has the release stood for too long? One that is new since this
-    /// was asked last begins now.
-    pub(crate) fn is_stale(
-        &mut self,
-        p: FpNo,
-        is_released: bool,
-        is_new: bool,
-        now: Instant,
-    ) -> bool {
-        if is_new || !is_released {
+    /// These points were released now: what stood there before is no more.
+    pub(crate) fn note_releases(&mut self, released: PointSet, now: Instant) {
+        if released.first().is_none() {
+            return;
+        }
+        for number in 1..=POINTS {
+            if let Some(p) = FpNo::new(number) {
+                if released.contains(p) {
+                    self.released_since[p.cell()] = Some(now);
+                }
+            }
+        }
+    }
+
+    /// A point is released, or isn't: has the release stood for too long?
+    pub(crate) fn is_stale(&mut self, p: FpNo, is_released: bool, now: Instant) -> bool {
+        if !is_released {
             self.released_since[p.cell()] = None;
         }
         let seconds = self.patience.release_seconds;

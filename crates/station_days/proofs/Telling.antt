@@ -66,7 +66,8 @@ tells_station g opens u v w said port page_said page form x s t same also begins
     }
 
 -- .. and then a front of it
-pub tells_station_front : (g : GateState) (opens : Book) (u v w : Option (List ℕ)) (said port : Option ℕ)
+pub tells_station_front : (g : GateState) (opens : Book) (u v w : Option (List ℕ))
+    (said port : Option ℕ)
     (page_said page : Option ℕ) (form : ReportForm) (x : Book) (s t : StationState)
     → said ≡ port → page_said ≡ page → s ≡ opening_station g opens
     → Reaches s t → x ≡ t.book → Appends u v (places_text said page_said)
@@ -84,7 +85,8 @@ tells_station_front g opens u v w said port page_said page form x s t same also 
     }
 
 -- a front of the lines
-pub tells_station_line : (g : GateState) (opens : Book) (u v : Option (List ℕ)) (said port : Option ℕ)
+pub tells_station_line : (g : GateState) (opens : Book) (u v : Option (List ℕ))
+    (said port : Option ℕ)
     (page_said page : Option ℕ) (form : ReportForm)
     → said ≡ port → page_said ≡ page → AppendsFront u v (places_text said page_said)
     → TellsFront g opens port page form u v

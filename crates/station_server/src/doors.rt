@@ -75,6 +75,7 @@ impl Doors {
     /// A door at which connections may still wait is reported once more.
     pub(crate) fn watch_again(&mut self, poll: &Poll, place: usize) {
         if let Some(door) = self.doors.get_mut(place) {
+            door.has_callers = false;
             let token = Token(FIRST_DOOR.saturating_add(place));
             let _ = poll
                 .registry()
@@ -85,6 +86,11 @@ impl Doors {
     /// May connections wait at this door?
     pub(crate) fn has_callers(&self, place: usize) -> bool {
         self.doors.get(place).is_some_and(|door| door.has_callers)
+    }
+
+    /// May connections wait at a door?
+    pub(crate) fn have_callers(&self) -> bool {
+        self.doors.iter().any(|door| door.has_callers)
     }
 
     /// Accepts one connection that waits at this door. Where none does, none is looked for until

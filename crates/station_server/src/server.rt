@@ -12,10 +12,12 @@ use crate::sizes::{EVENTS_A_ROUND, ROUNDS_BEFORE_A_SWEEP, SWEEP_SECONDS};
 use connection_calls::{ACCEPTS_A_TURN, Caller, accept};
 use journal::{Disk, DiskFault};
 use mio::event::Event;
-use mio::net::{TcpListener, TcpStream};
+use mio::net::{TcpListener, TcpStream, UnixStream};
 use mio::{Events, Interest, Poll, Token, Waker};
 use page_connections::Pages;
-use peer_connections::{Connections, HOLD_MILLISECONDS};
+use peer_connections::Connections;
+use site_base::NoMemory;
+use site_json::PeerSession;
 use stamps::StampClock;
 use station::PEERS;
 use std::alloc::Global;
@@ -45,7 +47,15 @@ pub struct StationServer {
     doors: Doors,
     pages: Option<Pages>,
     page_port: Option<u16>,
-    callers: Callers,
+    /// Connections may wait over TCP to be accepted.
+    has_callers: bool,
+    /// Accepting failed: it is tried again at the next sweep.
+    is_refused: bool,
+    /// A connection was accepted since others were heard: it is heard before a peer leaves for
+    /// another one.
+    has_accepted: bool,
+    /// Others may wait behind those that were accepted: the next round reports them.
+    may_have_more: bool,
     /// It was told that accepting failed, and since then not all that waited were accepted.
     has_told: bool,
     /// The day's end has come.
@@ -53,17 +63,6 @@ pub struct StationServer {
     swept_at: Instant,
     rounds: RoundClock,
     clock: StampClock,
-}
-
-/// Whether connections wait to be accepted.
-#[derive(Clone, Copy, Debug, PartialEq, Eq)]
-enum Callers {
-    /// None that is known of.
-    None,
-    /// They wait, and are accepted at the end of the round.
-    Waiting,
-    /// Accepting failed: it is tried again at the next sweep.
-    Refused,
 }
 
 impl StationServer {
@@ -153,8 +152,8 @@ impl StationServer {
         Ok(())
     }
 
-    /// Serves connections until the day's end. No release of the day before stands then, if there is
-    /// a house till.
+    /// Serves connections until the day's end. No release of the day before stands then, if there
+    /// is a house till.
     #[tactic(auto, using(crate::proofs::Rounds::moved))]
     fn serve_rounds<T: Wait, R: Clock + Eprint, D: Disk>(
         &mut self,
@@ -192,6 +191,8 @@ impl StationServer {
     {
         match self.poll.poll(&mut self.events, timeout) {
             Ok(()) => {
+                self.has_accepted = false;
+                self.may_have_more = false;
                 self.rounds.begin_round(rt);
                 let clock = self.clock.read(self.alloc, rt);
                 connections.begin_round(rt, clock, self.rounds.now());
@@ -235,17 +236,19 @@ impl StationServer {
         };
         let registry = self.poll.registry();
         if pages.accept_waiting(registry, self.rounds.waited()) {
-            match connections.read_unpaid() {
-                Ok(()) => pages.answer_due(
+            let sessions = list_sessions(self.alloc, connections, self.rounds.waited());
+            match (connections.read_unpaid(), sessions) {
+                (Ok(()), Ok(sessions)) => pages.answer_due(
                     registry,
                     connections.book(),
                     connections.unpaid(),
                     connections.count(),
+                    &sessions,
                     connections.open_since(),
                     connections.last_seal(),
                     self.rounds.waited(),
                 ),
-                Err(_) => pages.close_due(),
+                _ => pages.close_due(),
             }
         }
         pages.close_late(self.rounds.waited());
@@ -258,11 +261,11 @@ impl StationServer {
         connections: &Connections<D>,
         idle: Option<u64>,
     ) -> Option<Duration> {
-        if connections.has_held_back() {
-            return Some(Duration::from_millis(HOLD_MILLISECONDS));
+        if let Some(left) = connections.hold_left(self.rounds.waited()) {
+            return Some(left);
         }
         let is_page_busy = self.pages.as_ref().is_some_and(|pages| pages.is_busy());
-        if self.callers == Callers::Refused
+        if self.is_refused
             || connections.may_wait()
             || connections.keeps_up()
             || idle.is_some()
@@ -281,7 +284,7 @@ impl StationServer {
         for event in &self.events {
             match event.token() {
                 WAKER => self.has_ended = true,
-                LISTENER => self.callers = Callers::Waiting,
+                LISTENER => self.has_callers = true,
                 Token(key) if key < PEERS => take_turn(
                     connections,
                     event,
@@ -298,13 +301,20 @@ impl StationServer {
         Ok(())
     }
 
-    /// Accepts the connections that wait, over TCP and at the doors.
+    /// Accepts the connections that wait, at the doors and over TCP, unless accepting has failed.
     #[tactic(auto, using(crate::proofs::Rounds::moved))]
     fn accept_waiting<R: Eprint, D: Disk>(&mut self, rt: &R, connections: &mut Connections<D>)
         ensures { Reaches connections.old.stored.station connections.new.stored.station }
     {
-        self.accept_on_port(rt, connections);
+        if self.is_refused {
+            return;
+        }
+        // Doors first: where descriptors are few, the port takes each one that is free.
         self.accept_at_doors(rt, connections);
+        self.accept_on_port(rt, connections);
+        if !self.may_have_more && !self.has_callers && !self.doors.have_callers() {
+            self.has_told = false;
+        }
     }
 
     /// Accepts the connections that wait over TCP, if some do.
@@ -312,20 +322,16 @@ impl StationServer {
     fn accept_on_port<R: Eprint, D: Disk>(&mut self, rt: &R, connections: &mut Connections<D>)
         ensures { Reaches connections.old.stored.station connections.new.stored.station }
     {
-        if self.callers == Callers::Waiting {
+        if self.has_callers {
             self.accept_all(rt, connections);
         }
     }
 
-    /// Accepts the connections that wait at the doors, as `accept_all` does, unless accepting has
-    /// failed.
+    /// Accepts the connections that wait at the doors, as `accept_all` does.
     #[tactic(auto, using(crate::proofs::Rounds::moved))]
     fn accept_at_doors<R: Eprint, D: Disk>(&mut self, rt: &R, connections: &mut Connections<D>)
         ensures { Reaches connections.old.stored.station connections.new.stored.station }
     {
-        if self.callers == Callers::Refused {
-            return;
-        }
         for place in 0..self.doors.len() {
             if self.doors.has_callers(place) {
                 self.accept_at_door(rt, connections, place);
@@ -344,20 +350,78 @@ impl StationServer {
         ensures { Reaches connections.old.stored.station connections.new.stored.station }
     {
         for _ in 0..ACCEPTS_A_TURN {
-            match self.doors.accept(place) {
-                Caller::Came(stream) => {
-                    let registry = self.poll.registry();
-                    connections.welcome_at(registry, rt, place, stream, self.rounds.waited());
-                }
-                Caller::Gone => {}
-                Caller::None => return,
-                Caller::Failed(error) => {
-                    self.tell_refused(rt, &error);
-                    return;
-                }
+            match self.welcome_next_at(rt, connections, place) {
+                Accepting::GoesOn => {}
+                Accepting::IsOver => return,
+                Accepting::Later => break,
             }
         }
+        self.may_have_more = true;
         self.doors.watch_again(&self.poll, place);
+    }
+
+    /// Accepts one connection that waits at the door of this place, and its peer gets a place.
+    #[tactic(auto, using(crate::proofs::Rounds::moved))]
+    fn welcome_next_at<R: Eprint, D: Disk>(
+        &mut self,
+        rt: &R,
+        connections: &mut Connections<D>,
+        place: usize,
+    ) -> Accepting
+        ensures { Reaches connections.old.stored.station connections.new.stored.station }
+    {
+        match self.accept_one_at(connections, place) {
+            Caller::Came(stream) => {
+                self.has_accepted = true;
+                let registry = self.poll.registry();
+                connections.welcome_at(registry, rt, place, stream, self.rounds.waited());
+                Accepting::GoesOn
+            }
+            Caller::Gone => Accepting::GoesOn,
+            Caller::None => Accepting::IsOver,
+            Caller::Failed(error) => self.note_failed(rt, &error),
+        }
+    }
+
+    /// Accepts one connection that waits at the door of this place. Where that fails, a peer over
+    /// TCP leaves that waits without a whole message, and it is tried once more; but not in a round
+    /// in which one came: that one is heard first, and without a descriptor the system doesn't say
+    /// whether another one waits.
+    #[tactic(auto, using(crate::proofs::Rounds::moved))]
+    fn accept_one_at<D: Disk>(
+        &mut self,
+        connections: &mut Connections<D>,
+        place: usize,
+    ) -> Caller<UnixStream>
+        ensures { Reaches connections.old.stored.station connections.new.stored.station }
+    {
+        match self.doors.accept(place) {
+            Caller::Failed(error) => {
+                if !self.has_accepted && connections.make_way() {
+                    self.doors.accept(place)
+                } else {
+                    Caller::Failed(error)
+                }
+            }
+            caller => caller,
+        }
+    }
+
+    /// Accepts one connection that waits over TCP, as `accept_one_at` does.
+    #[tactic(auto, using(crate::proofs::Rounds::moved))]
+    fn accept_one<D: Disk>(&mut self, connections: &mut Connections<D>) -> Caller<TcpStream>
+        ensures { Reaches connections.old.stored.station connections.new.stored.station }
+    {
+        match accept_at(&self.listener) {
+            Caller::Failed(error) => {
+                if !self.has_accepted && connections.make_way() {
+                    accept_at(&self.listener)
+                } else {
+                    Caller::Failed(error)
+                }
+            }
+            caller => caller,
+        }
     }
 
     /// Accepts the connections that wait over TCP. Where that fails it is told, once until all that
@@ -366,32 +430,57 @@ impl StationServer {
     fn accept_all<R: Eprint, D: Disk>(&mut self, rt: &R, connections: &mut Connections<D>)
         ensures { Reaches connections.old.stored.station connections.new.stored.station }
     {
-        self.callers = Callers::None;
         for _ in 0..ACCEPTS_A_TURN {
-            match accept_at(&self.listener) {
-                Caller::Came(stream) => {
-                    connections.welcome(self.poll.registry(), rt, stream, self.rounds.waited());
-                }
-                Caller::Gone => {}
-                Caller::None => {
-                    self.has_told = false;
-                    return;
-                }
-                Caller::Failed(error) => {
-                    self.tell_refused(rt, &error);
-                    return;
-                }
+            match self.welcome_next(rt, connections) {
+                Accepting::GoesOn => {}
+                Accepting::IsOver => return,
+                Accepting::Later => break,
             }
         }
+        self.may_have_more = true;
+        self.has_callers = false;
         if let Some(listener) = &mut self.listener {
             let registry = self.poll.registry();
             let _ = registry.reregister(listener, LISTENER, Interest::READABLE);
         }
     }
 
+    /// Accepts one connection that waits over TCP, and its peer gets a place.
+    #[tactic(auto, using(crate::proofs::Rounds::moved))]
+    fn welcome_next<R: Eprint, D: Disk>(
+        &mut self,
+        rt: &R,
+        connections: &mut Connections<D>,
+    ) -> Accepting
+        ensures { Reaches connections.old.stored.station connections.new.stored.station }
+    {
+        match self.accept_one(connections) {
+            Caller::Came(stream) => {
+                self.has_accepted = true;
+                connections.welcome(self.poll.registry(), rt, stream, self.rounds.waited());
+                Accepting::GoesOn
+            }
+            Caller::Gone => Accepting::GoesOn,
+            Caller::None => {
+                self.has_callers = false;
+                Accepting::IsOver
+            }
+            Caller::Failed(error) => self.note_failed(rt, &error),
+        }
+    }
+
+    /// Accepting failed so: later in this round, where a connection came, which is heard first.
+    fn note_failed<R: Eprint>(&mut self, rt: &R, error: &io::Error) -> Accepting {
+        if self.has_accepted {
+            return Accepting::Later;
+        }
+        self.tell_refused(rt, error);
+        Accepting::IsOver
+    }
+
     /// Accepting failed so: it is told, where it wasn't yet.
     fn tell_refused<R: Eprint>(&mut self, rt: &R, error: &io::Error) {
-        self.callers = Callers::Refused;
+        self.is_refused = true;
         if !self.has_told {
             self.has_told = true;
             let _ = eprintln!(rt; "cannot accept: {error}; it is tried again each second");
@@ -446,9 +535,9 @@ impl StationServer {
     fn accept_again<R: Eprint, D: Disk>(&mut self, rt: &R, connections: &mut Connections<D>)
         ensures { Reaches connections.old.stored.station connections.new.stored.station }
     {
-        if self.callers == Callers::Refused {
-            self.accept_all(rt, connections);
-            self.accept_at_doors(rt, connections);
+        if self.is_refused {
+            self.is_refused = false;
+            self.accept_waiting(rt, connections);
         }
     }
 
@@ -457,6 +546,39 @@ impl StationServer {
         let passed = self.rounds.waited().duration_since(self.swept_at);
         passed.as_secs() >= SWEEP_SECONDS
     }
+}
+
+/// How accepting goes on.
+#[derive(Clone, Copy, Debug, PartialEq, Eq)]
+enum Accepting {
+    /// Others may wait.
+    GoesOn,
+    /// None waits, or it failed.
+    IsOver,
+    /// Others may wait, and are accepted once those that came were heard.
+    Later,
+}
+
+/// The sessions of the peers whose nodes are known, in the order of their keys.
+fn list_sessions<D: Disk>(
+    alloc: Global,
+    connections: &Connections<D>,
+    now: Instant,
+) -> Result<Vec<PeerSession>, NoMemory> {
+    let mut sessions = Vec::new(alloc);
+    for key in 0..PEERS {
+        if let Some(session) = connections.session(key) {
+            let node = session.node;
+            let since = session.since;
+            let quiet_seconds = now.duration_since(session.heard_at).as_secs();
+            sessions.push(PeerSession {
+                node,
+                since,
+                quiet_seconds,
+            })?;
+        }
+    }
+    Ok(sessions)
 }
 
 /// A connection that is ready has its turn.
@@ -473,7 +595,7 @@ fn take_turn<D: Disk>(
         connections.unblock(key);
     }
     let to_wait = event.is_read_closed() || event.is_priority();
-    if event.is_readable() || event.is_error() || to_wait {
+    if event.is_readable() || event.is_error() || to_wait || connections.is_unread(key) {
         connections.hear(key, to_wait, now)?;
     }
     connections.make_due(key);
@@ -562,7 +684,10 @@ fn listen<N: Net, C: Clock>(
         doors,
         pages: None,
         page_port: None,
-        callers: Callers::None,
+        has_callers: false,
+        is_refused: false,
+        has_accepted: false,
+        may_have_more: false,
         has_told: false,
         has_ended: false,
         swept_at: now,

@@ -5,7 +5,8 @@ use Rattle.station_days.proofs.day.station_day.Goals as goal
 -- the line wasn't written whole
 pub returns-in_err-put_places-clause-front : goal.returns-in_err-put_places-clause-front
 returns-in_err-put_places-clause-front g c =
-    tells_station_line _ _ _ _ _ _ _ _ _ c.port.ensures c.page_port.ensures c.put_places.ensures.front
+    tells_station_line _ _ _ _ _ _ _ _ _ c.port.ensures c.page_port.ensures
+    c.put_places.ensures.front
 
 -- the report wasn't written whole
 pub returns-in_err-put_stored_report-clause-front :

@@ -1,5 +1,5 @@
 use Rattle.std.proofs.Common.{◌≡◌}
 use Rattle.peer_connections.proofs.connections.Connections.read_on.Given as goal
 
-abbrev pub invariant-loop-key : goal.invariant-loop-key
-invariant-loop-key g l = l.self.stored ≡ l.fn.self.stored
+abbrev pub invariant-loop-step : goal.invariant-loop-step
+invariant-loop-step g l = l.self.stored ≡ l.fn.self.stored

@@ -1,0 +1,85 @@
+//! Sessions that are held back, since no more of them may be read yet.
+
+ghost use Rattle.std.specs.Prelude.{◌≡◌};
+
+use crate::connections::Connections;
+use journal::Disk;
+use mio::Registry;
+use station::PEERS;
+use std::time::{Duration, Instant};
+
+impl<D: Disk> Connections<D> {
+    /// How long it is until sessions that are held back are read on, if some are.
+    pub fn hold_left(&self, now: Instant) -> Option<Duration> {
+        let at = self.read_on_at?;
+        Some(at.duration_since(now))
+    }
+
+    /// A session is held back until then.
+    pub(crate) fn note_hold(&mut self, until: Instant)
+        ensures { self.new.stored ≡ self.old.stored }
+    {
+        let is_first = match self.read_on_at {
+            None => true,
+            Some(at) => until < at,
+        };
+        if is_first {
+            self.read_on_at = Some(until);
+        }
+    }
+
+    /// A session that was held back for long enough is read on: its connection is reported once
+    /// more. In a round one is, the next one in the next round: others have their turn between them.
+    pub fn read_on(&mut self, registry: &Registry, now: Instant)
+        ensures { self.new.stored ≡ self.old.stored }
+    {
+        if !self.is_read_on_due(now) {
+            return;
+        }
+        self.read_on_at = None;
+        let from = self.read_on_from;
+        for step in 0..PEERS {
+            let key = from.saturating_add(step) % PEERS;
+            if self.end_hold(registry, key, now) {
+                self.read_on_from = key + 1;
+                self.read_on_at = Some(now);
+                return;
+            }
+        }
+    }
+
+    /// Has a session been held back for long enough?
+    fn is_read_on_due(&self, now: Instant) -> bool {
+        match self.read_on_at {
+            None => false,
+            Some(at) => at <= now,
+        }
+    }
+
+    /// The session of a peer is held back no more, if it was for long enough; else false.
+    fn end_hold(&mut self, registry: &Registry, key: usize, now: Instant) -> bool
+        ensures { self.new.stored ≡ self.old.stored }
+    {
+        let Some(Some(link)) = self.links.get_mut(key) else {
+            return false;
+        };
+        let Some(until) = link.held_until else {
+            return false;
+        };
+        if until > now {
+            self.note_hold(until);
+            return false;
+        }
+        link.held_until = None;
+        link.stream.watch_again(registry, key);
+        true
+    }
+}
+
+/// So many milliseconds later.
+pub(crate) fn after(now: Instant, milliseconds: u64) -> Instant {
+    match now.checked_add(Duration::from_millis(milliseconds)) {
+        Some(later) => later,
+        None => now,
+    }
+}

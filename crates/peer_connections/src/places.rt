@@ -1,0 +1,232 @@
+//! The places of peers: who comes gets one, and where all are taken, one that waits without a whole
+//! message leaves.
+
+ghost use Rattle.peer_connections.specs.Reaches.{Reaches};
+
+use crate::connections::Connections;
+use crate::link::Link;
+use crate::nodes::is_of_a_site;
+use crate::peer_stream::PeerStream;
+use journal::Disk;
+use mio::Registry;
+use mio::net::{TcpStream, UnixStream};
+use site_base::NoMemory;
+use station::{FREE_PLACES, NODE_SESSIONS};
+use std::time::Instant;
+
+impl<D: Disk> Connections<D> {
+    /// A peer has come over TCP. Where it gets no place, or memory is wanting, its connection is
+    /// closed.
+    #[tactic(auto, using(crate::proofs::Reaching::moved))]
+    pub fn welcome<E: Eprint>(
+        &mut self,
+        registry: &Registry,
+        rt: &E,
+        stream: TcpStream,
+        now: Instant,
+    )
+        ensures { Reaches self.old.stored.station self.new.stored.station }
+    {
+        if let Some(key) = self.find_place_or_say(rt, None) {
+            self.link(registry, key, PeerStream::Tcp(stream), now);
+        }
+    }
+
+    /// A peer has come through the door of this place among the doors, as `welcome` says.
+    #[tactic(auto, using(crate::proofs::Reaching::moved))]
+    pub fn welcome_at<E: Eprint>(
+        &mut self,
+        registry: &Registry,
+        rt: &E,
+        door: usize,
+        stream: UnixStream,
+        now: Instant,
+    )
+        ensures { Reaches self.old.stored.station self.new.stored.station }
+    {
+        if let Some(key) = self.find_place_or_say(rt, Some(door)) {
+            self.link(registry, key, PeerStream::Unix(stream), now);
+        }
+    }
+
+    /// A place for a peer that has come at this door, or over TCP. That there is none is said.
+    #[tactic(auto, using(crate::proofs::Reaching::moved))]
+    fn find_place_or_say<E: Eprint>(&mut self, rt: &E, door: Option<usize>) -> Option<usize>
+        ensures { Reaches self.old.stored.station self.new.stored.station }
+    {
+        match self.find_place(door) {
+            Ok(Some(key)) => Some(key),
+            Ok(None) => {
+                let _ = eprintln!(rt; "a connection was closed: all places are taken");
+                None
+            }
+            Err(NoMemory) => {
+                let _ = eprintln!(rt; "a connection was closed: fault 31: out of memory");
+                None
+            }
+        }
+    }
+
+    /// The peer that has come to this place has this connection.
+    #[tactic(auto, using(crate::proofs::Reaching::moved))]
+    fn link(&mut self, registry: &Registry, key: usize, stream: PeerStream, now: Instant)
+        ensures { Reaches self.old.stored.station self.new.stored.station }
+    {
+        let mut stream = stream;
+        stream.send_at_once();
+        let is_watched = stream.watch(registry, key).is_ok();
+        if is_watched && key < self.links.len() {
+            let link = Link::new(stream, self.rows_a_second, self.round_time, now);
+            self.links[key] = Some(link);
+            self.may_wait = true;
+        } else {
+            self.stored.leave(key);
+        }
+    }
+
+    /// A place for a peer that has come at this door, or over TCP. Where all of these are taken,
+    /// the peer of one leaves that has waited longest without a whole message: so those that say
+    /// nothing keep nobody out.
+    #[tactic(auto, using(crate::proofs::Reaching::moved))]
+    fn find_place(&mut self, door: Option<usize>) -> Result<Option<usize>, NoMemory>
+        ensures { Reaches self.old.stored.station self.new.stored.station }
+    {
+        if let Some(key) = self.arrive(door)? {
+            return Ok(Some(key));
+        }
+        if self.dismiss_longest_waiting(door) {
+            self.arrive(door)
+        } else {
+            Ok(None)
+        }
+    }
+
+    /// A connection can't be accepted, since no descriptor is left, say: the peer over TCP leaves
+    /// that has waited longest without a whole message. False where none waits so.
+    #[tactic(auto, using(crate::proofs::Reaching::moved))]
+    pub fn make_way(&mut self) -> bool
+        ensures { Reaches self.old.stored.station self.new.stored.station }
+    {
+        self.dismiss_longest_waiting(None)
+    }
+
+    /// The peer leaves that has waited longest without a whole message, of those of this door, or
+    /// of TCP. False where none waits so.
+    #[tactic(auto, using(crate::proofs::Reaching::moved))]
+    fn dismiss_longest_waiting(&mut self, door: Option<usize>) -> bool
+        ensures { Reaches self.old.stored.station self.new.stored.station }
+    {
+        match self.find_longest_waiting(door) {
+            Some(key) => {
+                self.remove(key);
+                true
+            }
+            None => false,
+        }
+    }
+
+    /// A peer arrives at this door, or over TCP.
+    #[tactic(auto, using(crate::proofs::Reaching::moved))]
+    fn arrive(&mut self, door: Option<usize>) -> Result<Option<usize>, NoMemory>
+        ensures { Reaches self.old.stored.station self.new.stored.station }
+    {
+        match door {
+            None => self.arrive_over_tcp(),
+            Some(place) => self.arrive_at(place),
+        }
+    }
+
+    /// A peer arrives over TCP.
+    #[tactic(auto, using(crate::proofs::Reaching::moved))]
+    fn arrive_over_tcp(&mut self) -> Result<Option<usize>, NoMemory>
+        ensures { Reaches self.old.stored.station self.new.stored.station }
+    {
+        match self.stored.arrive() {
+            Ok(key) => Ok(key),
+            Err(NoMemory) => Err(NoMemory),
+        }
+    }
+
+    /// A peer arrives at the door of this place among the doors.
+    #[tactic(auto, using(crate::proofs::Reaching::moved))]
+    fn arrive_at(&mut self, place: usize) -> Result<Option<usize>, NoMemory>
+        ensures { Reaches self.old.stored.station self.new.stored.station }
+    {
+        match self.stored.arrive_at(place) {
+            Ok(key) => Ok(key),
+            Err(NoMemory) => Err(NoMemory),
+        }
+    }
+
+    /// The peer that has waited longest without a whole message, of those of this door, or of TCP.
+    fn find_longest_waiting(&self, door: Option<usize>) -> Option<usize> {
+        let (first, last) = match door {
+            None => (0, FREE_PLACES),
+            Some(place) => door_keys(place),
+        };
+        let mut longest: Option<(usize, Waiting)> = None;
+        for key in first..last {
+            if let Some(waiting) = self.look_for_message(key) {
+                let is_longer = match &longest {
+                    None => true,
+                    Some((_, other)) => waiting.leaves_before(other),
+                };
+                if is_longer {
+                    longest = Some((key, waiting));
+                }
+            }
+        }
+        let (key, _) = longest?;
+        Some(key)
+    }
+
+    /// Since when a peer waits without a whole message, if it does: since it came, and one whose
+    /// session has ended since then, or since it last took octets. A message of a node that no site
+    /// has counts for nothing.
+    fn look_for_message(&self, key: usize) -> Option<Waiting> {
+        let Some(Some(link)) = self.links.get(key) else {
+            return None;
+        };
+        if let Some(since) = link.closing_since {
+            return Some(Waiting {
+                since,
+                is_unread: false,
+            });
+        }
+        match self.stored.node(key) {
+            Some(node) if is_of_a_site(node) => None,
+            _ => Some(Waiting {
+                since: link.came_at,
+                is_unread: link.is_unread,
+            }),
+        }
+    }
+}
+
+/// How long a peer has waited without a whole message.
+#[derive(Clone, Copy, Debug, PartialEq, Eq)]
+struct Waiting {
+    since: Instant,
+    /// The station hasn't read yet all that the peer sent.
+    is_unread: bool,
+}
+
+impl Waiting {
+    /// Does this peer leave before the other one? The one does that has waited longer, but first
+    /// those of which all was read that they sent.
+    fn leaves_before(&self, other: &Waiting) -> bool {
+        if self.is_unread == other.is_unread {
+            self.since < other.since
+        } else {
+            other.is_unread
+        }
+    }
+}
+
+/// The keys of a door, by its place among the doors: the first, and the first that isn't.
+fn door_keys(place: usize) -> (usize, usize) {
+    let first = place
+        .saturating_mul(NODE_SESSIONS)
+        .saturating_add(FREE_PLACES);
+    (first, first.saturating_add(NODE_SESSIONS))
+}

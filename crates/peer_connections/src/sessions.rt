@@ -1,0 +1,38 @@
+//! The sessions that last, as they are shown.
+
+ghost use Rattle.std.specs.Prelude.{◌≡◌, IfSome, Some};
+ghost use Rattle.station.specs.Reads.{speaker_at};
+
+use crate::connections::Connections;
+use journal::Disk;
+use stamps::Stamp;
+use std::time::Instant;
+
+/// A session that lasts, of a peer whose node is known.
+#[derive(Clone, Copy, Debug, PartialEq, Eq)]
+pub struct Session {
+    /// At a door its node, without one the originator of its first message.
+    pub node: [u8; 2],
+    /// The time of the round in which the peer came, where the clock told it.
+    pub since: Option<Stamp>,
+    /// When octets of it came last.
+    pub heard_at: Instant,
+}
+
+impl<D: Disk> Connections<D> {
+    /// The session of the peer of this key, if it lasts, and came at a door or has brought a
+    /// message.
+    pub fn session(&self, key: usize) -> Option<Session>
+        ensures { IfSome result (λ s. speaker_at self.now.stored.station key ≡ Some s.node) }
+    {
+        let Some(Some(link)) = self.links.get(key) else {
+            return None;
+        };
+        let node = self.stored.speaker(key)?;
+        Some(Session {
+            node,
+            since: link.since,
+            heard_at: link.heard_at,
+        })
+    }
+}
