@@ -127,7 +127,10 @@ fn run_opened<
     opened.station.set_gates(open.gates);
     let lines = match ErrorLines::start(rt, threads, rt.alloc(), errors) {
         Ok(lines) => lines,
-        Err(fault) => return exit_day::<()>(rt, Err(fault)),
+        Err(fault) => {
+            open.sockets.remove(rt);
+            return exit_day::<()>(rt, Err(fault));
+        }
     };
     let reporting = Reporting {
         host: rt,
@@ -137,6 +140,7 @@ fn run_opened<
         rt, &reporting, threads, input, opened, found, open.doors, plans, options,
     );
     lines.end(threads);
+    open.sockets.remove(rt);
     exit_day(rt, end)
 }
 

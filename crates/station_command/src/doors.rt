@@ -10,17 +10,39 @@ use site_base::{FpNo, NoMemory, TillNo};
 use station::Gates;
 use station_server::Doors;
 use std::alloc::AllocError;
+use std::fs::{File, TryLockError};
 use std::io::ErrorKind;
 use std::net::Net;
+use std::os::unix::fs::FileTypeExt;
 use std::process::ExitCode;
 use std::rt::Files;
 use std::{fs, io};
 
-/// The doors of a station, and who may speak at each.
+/// The doors of a station, who may speak at each, and the sockets that were made for them.
 #[derive(Drop)]
 pub struct OpenDoors {
     pub doors: Doors,
     pub gates: Gates,
+    pub sockets: Sockets,
+}
+
+/// The sockets that a start has made, and the lock of the folder of their doors: while one station
+/// has it, no other one takes a socket for one that an earlier run left.
+#[derive(Drop)]
+pub struct Sockets {
+    lock: Option<File>,
+    paths: Vec<String>,
+}
+
+impl Sockets {
+    /// Removes the sockets.
+    pub fn remove<R: Files>(&self, rt: &R) {
+        for path in &self.paths {
+            if is_socket(rt, path.as_str()) {
+                let _ = fs::remove_file(rt, path.as_str());
+            }
+        }
+    }
 }
 
 /// Why a door isn't opened. The text is the name of its folder.
@@ -58,7 +80,7 @@ enum SocketFault {
 
 /// Listens at the doors of this folder, if there is one, or says why not, and how the program ends:
 /// at the socket of each subfolder that has the name of a node.
-pub fn open_doors<R: Files + Net + Eprint + AllocGlobal>(
+pub fn open_doors<R: Files<File = File> + Net + Eprint + AllocGlobal>(
     rt: &R,
     folder: Option<&str>,
 ) -> Result<OpenDoors, ExitCode>
@@ -67,18 +89,25 @@ pub fn open_doors<R: Files + Net + Eprint + AllocGlobal>(
     let mut open = OpenDoors {
         doors: Doors::new(rt.alloc()),
         gates: Gates::new(rt.alloc()),
+        sockets: Sockets {
+            lock: None,
+            paths: Vec::new(rt.alloc()),
+        },
     };
     let Some(folder) = folder else {
         return Ok(open);
     };
     match open_each(rt, folder, &mut open) {
         Ok(()) => Ok(open),
-        Err(fault) => Err(exit_door(rt, folder, &fault)),
+        Err(fault) => {
+            open.sockets.remove(rt);
+            Err(exit_door(rt, folder, &fault))
+        }
     }
 }
 
-/// Opens each door of a folder, once each has the name of a node.
-fn open_each<R: Files + Net + AllocGlobal>(
+/// Opens each door of a folder, once each has the name of a node, and no other station has them.
+fn open_each<R: Files<File = File> + Net + AllocGlobal>(
     rt: &R,
     folder: &str,
     open: &mut OpenDoors,
@@ -86,6 +115,9 @@ fn open_each<R: Files + Net + AllocGlobal>(
     let mut names = list_folders(rt, folder)?;
     names.sort()?;
     check_names(&names)?;
+    if let Some(first) = names.first() {
+        open.sockets.lock = Some(lock_doors(rt, folder, first.as_str())?);
+    }
     for name in names {
         open_door(rt, folder, name, open)?;
     }
@@ -118,8 +150,24 @@ fn check_names(names: &[String]) -> Result<(), DoorFault> {
     Ok(())
 }
 
+/// Locks a folder of doors, of which this one is the first.
+fn lock_doors<R: Files<File = File> + AllocGlobal>(
+    rt: &R,
+    folder: &str,
+    first: &str,
+) -> Result<File, DoorFault> {
+    let Ok(file) = File::open(rt, folder) else {
+        return Err(DoorFault::Unread);
+    };
+    match file.try_lock() {
+        Ok(()) => Ok(file),
+        Err(TryLockError::WouldBlock) => Err(DoorFault::InUse(first.to_string(rt.alloc())?)),
+        Err(TryLockError::Error(_)) => Err(DoorFault::Unread),
+    }
+}
+
 /// Listens at the door of this name, and lets its node speak there alone.
-fn open_door<R: Files + Net + AllocGlobal>(
+fn open_door<R: Files<File = File> + Net + AllocGlobal>(
     rt: &R,
     folder: &str,
     name: String,
@@ -129,8 +177,13 @@ fn open_door<R: Files + Net + AllocGlobal>(
         return Err(DoorFault::NoNode(name));
     };
     let path = format!(in rt.alloc(); "{folder}/{name}/socket")?;
+    open.sockets.paths.reserve(1)?;
     match listen_at(rt, path.as_str()) {
         Ok(listener) => {
+            open.sockets
+                .paths
+                .push(path)
+                .map_err(|_| DoorFault::NoMemory)?;
             let _ = open.gates.add_door(node)?;
             open.doors.add(listener)?;
             Ok(())
@@ -194,10 +247,10 @@ fn bind_anew<R: Files + Net>(rt: &R, path: &str) -> io::Result<UnixListener> {
     UnixListener::bind(rt, path)
 }
 
-/// Is what has this name neither a file, nor a folder, nor a link?
+/// Is what has this name a socket?
 fn is_socket<R: Files>(rt: &R, path: &str) -> bool {
     match fs::symlink_metadata(rt, path) {
-        Ok(found) => !found.is_file() && !found.is_dir() && !found.is_symlink(),
+        Ok(found) => found.file_type().is_socket(),
         Err(_) => false,
     }
 }

@@ -10,6 +10,7 @@ use std::io::{ErrorKind, Read, Write};
 use std::net::{Net, Shutdown};
 use std::os::fd::AsRawFd;
 use std::os::unix::net::UnixStream;
+use std::sync::{Arc, Mutex};
 use std::thread::{JoinHandle, Threads};
 use std::time::{Clock, Duration, Instant};
 use std::{io, thread};
@@ -26,12 +27,15 @@ const TURNS_A_LINE: usize = 4;
 /// The last lines are waited for so many seconds, where nobody reads them.
 const LAST_LINE_SECONDS: u64 = 1;
 
-/// Lines are passed to a thread that writes them. One that finds no room, since nobody reads them,
-/// is left out and counted.
+/// Lines are passed to a thread that writes them, of one text only as many as are written in a
+/// second. One that finds no room, since nobody reads them, is left out and counted.
 #[derive(Drop)]
 pub struct ErrorLines {
     alloc: Global,
     stream: UnixStream,
+    /// What was passed in this second. The thread has it, too: it says how many were left out where
+    /// no more lines come.
+    tally: Arc<Mutex<LineTally>>,
     left_out: Cell<u64>,
     thread: JoinHandle<()>,
 }
@@ -50,10 +54,17 @@ impl ErrorLines {
         if stream.set_nonblocking(true).is_err() {
             return Err(DayFault::NoConnection);
         }
-        match thread::spawn(threads, move || write_lines(alloc, &output, lines)) {
+        let Ok(tally) = Arc::new(alloc, Mutex::new(LineTally::new(alloc))) else {
+            return Err(DayFault::NoMemory);
+        };
+        let Ok(shared) = Arc::clone(&tally) else {
+            return Err(DayFault::NoMemory);
+        };
+        match thread::spawn(threads, move || write_lines(alloc, &output, lines, &shared)) {
             Ok(thread) => Ok(ErrorLines {
                 alloc,
                 stream,
+                tally,
                 left_out: Cell::new(0),
                 thread,
             }),
@@ -103,25 +114,57 @@ impl ErrorLines {
         Ok(())
     }
 
-    /// Passes a line on, behind how many were left out.
+    /// Passes a line on, behind how many were left out. One that can't be is left out.
     fn pass_line<D: Display + Drop>(&self, line: D) -> io::Result<()> {
-        let text = format!(in self.alloc; "{line}\n")?;
-        self.pass_left_out()?;
-        self.pass(text.as_str())
-    }
-}
-
-impl Eprint for ErrorLines {
-    fn eprint<D: Display + Drop>(&self, value: D) -> io::Result<()> {
-        self.eprintln(value)
-    }
-
-    fn eprintln<D: Display + Drop>(&self, value: D) -> io::Result<()> {
-        let passed = self.pass_line(value);
+        let passed = self.try_to_pass(line);
         if passed.is_err() {
             self.left_out.set(self.left_out.get().saturating_add(1));
         }
         passed
+    }
+
+    fn try_to_pass<D: Display + Drop>(&self, line: D) -> io::Result<()> {
+        let text = format!(in self.alloc; "{line}\n")?;
+        self.pass_left_out()?;
+        self.pass(text.as_str())
+    }
+
+    /// Passes a line on, if not too many of its text were passed in this second. Where a second is
+    /// over, first comes how many it has left out.
+    fn pass_some<D: Display + Drop>(&self, line: D, now: Option<Instant>) -> io::Result<()> {
+        let line = format!(in self.alloc; "{line}")?;
+        if let Some(ended) = take_ended(&self.tally, now) {
+            ended.tell(&Passing { lines: self });
+        }
+        if self.counts(line.as_str(), now) {
+            self.pass_line(line)
+        } else {
+            Ok(())
+        }
+    }
+
+    /// Counts a line: is it to be passed? One is that comes just while the thread has the tally.
+    fn counts(&self, line: &str, now: Option<Instant>) -> bool {
+        match self.tally.try_lock() {
+            Some(mut tally) => tally.count(line, now),
+            None => true,
+        }
+    }
+}
+
+/// Lines that are passed, however many were.
+#[derive(Drop)]
+struct Passing<'a> {
+    lines: &'a ErrorLines,
+}
+
+impl Eprint for Passing<'_> {
+    fn eprint<D: Display + Drop>(&self, value: D) -> io::Result<()> {
+        self.lines.pass_line(value)
+    }
+
+    fn eprintln<D: Display + Drop>(&self, value: D) -> io::Result<()> {
+        self.lines.pass_line(value)
     }
 }
 
@@ -142,13 +185,13 @@ impl<R: Clock> Clock for Reporting<'_, R> {
     }
 }
 
-impl<R> Eprint for Reporting<'_, R> {
+impl<R: Clock> Eprint for Reporting<'_, R> {
     fn eprint<D: Display + Drop>(&self, value: D) -> io::Result<()> {
-        self.lines.eprint(value)
+        self.eprintln(value)
     }
 
     fn eprintln<D: Display + Drop>(&self, value: D) -> io::Result<()> {
-        self.lines.eprintln(value)
+        self.lines.pass_some(value, Instant::now(self.host).ok())
     }
 }
 
@@ -172,10 +215,15 @@ fn is_apart(one: &UnixStream, other: &UnixStream) -> bool {
     one.as_raw_fd() > LAST_STANDARD && other.as_raw_fd() > LAST_STANDARD
 }
 
-/// Writes the lines that come, until no more do.
-fn write_lines<E: Eprint + Clock>(alloc: Global, output: &E, stream: UnixStream) {
+/// Writes the lines that come, until no more do. How many were left out in a second is said at its
+/// end, though no more come.
+fn write_lines<E: Eprint + Clock>(
+    alloc: Global,
+    output: &E,
+    stream: UnixStream,
+    tally: &Mutex<LineTally>,
+) {
     let mut stream = stream;
-    let mut tally = LineTally::new(alloc);
     let mut pending = Vec::new(alloc);
     let mut piece = [0; LINE_OCTETS];
     for _ in 0..u64::MAX {
@@ -183,25 +231,57 @@ fn write_lines<E: Eprint + Clock>(alloc: Global, output: &E, stream: UnixStream)
             Ok(0) => break,
             Ok(n) => {
                 let _ = pending.extend_from_slice(&piece[..n]);
-                take_lines(output, &mut tally, &mut pending);
+                write_whole_lines(output, &mut pending);
             }
             Err(error) if error.kind() == ErrorKind::Interrupted => {}
-            Err(_) => tally.end_second(output),
+            Err(_) => tell_ended(output, tally),
         }
-        // Where some were left out, that is said at the second's end, though no more come.
-        let timeout = tally.has_more().then(|| Duration::from_secs(1));
+        let timeout = has_lines(tally).then(|| Duration::from_secs(1));
         let _ = stream.set_read_timeout(timeout);
     }
-    tally.end_second(output);
+    if let Some(ended) = take_all(tally) {
+        ended.tell(output);
+    }
+}
+
+/// Says how many lines a second has left out, if it is over.
+fn tell_ended<E: Eprint + Clock>(output: &E, tally: &Mutex<LineTally>) {
+    if let Some(ended) = take_ended(tally, Instant::now(output).ok()) {
+        ended.tell(output);
+    }
+}
+
+/// Were lines passed in this second? So it may be, where somebody else has the tally.
+fn has_lines(tally: &Mutex<LineTally>) -> bool {
+    match tally.try_lock() {
+        Some(tally) => !tally.is_empty(),
+        None => true,
+    }
+}
+
+/// Takes what was counted in a second that is over, if nobody else has the tally just now.
+fn take_ended(tally: &Mutex<LineTally>, now: Option<Instant>) -> Option<LineTally> {
+    let mut tally = tally.try_lock()?;
+    if tally.is_over(now) {
+        Some(tally.take())
+    } else {
+        None
+    }
+}
+
+/// Takes what was counted, if nobody else has the tally just now.
+fn take_all(tally: &Mutex<LineTally>) -> Option<LineTally> {
+    let mut tally = tally.try_lock()?;
+    Some(tally.take())
 }
 
 /// Writes the whole lines of what came.
-fn take_lines<E: Eprint + Clock>(output: &E, tally: &mut LineTally, pending: &mut Vec<u8>) {
+fn write_whole_lines<E: Eprint>(output: &E, pending: &mut Vec<u8>) {
     let mut begin = 0;
     for at in 0..pending.len() {
         if pending[at] == b'\n' {
             if let Some(line) = line_in(pending, begin, at) {
-                tally.write(output, line, Instant::now(output).ok());
+                let _ = output.eprintln(line);
             }
             begin = at + 1;
         }

@@ -1,7 +1,8 @@
 //! How often a line is written.
 
 use std::alloc::Global;
-use std::time::{Clock, Instant};
+use std::mem;
+use std::time::Instant;
 
 /// So many lines of a text are written in a second at most.
 const LINES_A_SECOND: u64 = 10;
@@ -23,7 +24,7 @@ pub struct LineTally {
 /// A text, and how many lines of it came.
 #[derive(Drop)]
 struct Text {
-    line: String,
+    text: String,
     count: u64,
 }
 
@@ -38,41 +39,37 @@ impl LineTally {
         }
     }
 
-    /// Were lines left out in this second?
-    pub fn has_more(&self) -> bool {
-        self.others > 0 || self.texts.iter().any(|text| text.count > LINES_A_SECOND)
-    }
-
-    /// Writes a line, if not too many of its text came in this second.
-    pub fn write<E: Eprint + Clock>(&mut self, output: &E, line: &str, now: Option<Instant>) {
-        if self.is_over(now) {
-            self.end_second(output);
-        }
-        if self.texts.is_empty() {
-            self.since = now;
-        }
-        if self.count(line) {
-            let _ = output.eprintln(line);
-        }
+    /// Did no line come?
+    pub fn is_empty(&self) -> bool {
+        self.texts.is_empty() && self.others == 0
     }
 
     /// Is the second over?
-    fn is_over(&self, now: Option<Instant>) -> bool {
+    pub fn is_over(&self, now: Option<Instant>) -> bool {
         match (self.since, now) {
             (Some(since), Some(now)) => now.duration_since(since).as_secs() > 0,
             _ => false,
         }
     }
 
-    /// Counts a line: is it one of the first of its text?
-    fn count(&mut self, line: &str) -> bool {
-        for text in &mut self.texts {
-            if text.line.as_str() == line {
-                text.count = text.count.saturating_add(1);
-                return text.count <= LINES_A_SECOND;
+    /// Takes what was counted: a new second begins with the next line.
+    pub fn take(&mut self) -> LineTally {
+        mem::replace(self, LineTally::new(self.alloc))
+    }
+
+    /// Counts a line: is it one of the first of its text in this second?
+    pub fn count(&mut self, line: &str, now: Option<Instant>) -> bool {
+        if self.is_empty() {
+            self.since = now;
+        }
+        let text = text_of(line);
+        for known in &mut self.texts {
+            if known.text.as_str() == text {
+                known.count = known.count.saturating_add(1);
+                return known.count <= LINES_A_SECOND;
             }
         }
-        if self.texts.len() < TEXTS && self.add(line) {
+        if self.texts.len() < TEXTS && self.add(text) {
             return true;
         }
         self.others = self.others.saturating_add(1);
@@ -80,27 +77,35 @@ impl LineTally {
     }
 
     /// One more text; false where memory is wanting.
-    fn add(&mut self, line: &str) -> bool {
-        match line.to_string(self.alloc) {
-            Ok(line) => self.texts.push(Text { line, count: 1 }).is_ok(),
+    fn add(&mut self, text: &str) -> bool {
+        match text.to_string(self.alloc) {
+            Ok(text) => self.texts.push(Text { text, count: 1 }).is_ok(),
             Err(_) => false,
         }
     }
 
-    /// The second is over: says how many lines were left out.
-    pub fn end_second<E: Eprint>(&mut self, output: &E) {
-        for text in &self.texts {
-            if text.count > LINES_A_SECOND {
-                let more = text.count - LINES_A_SECOND;
-                let line = text.line.as_str();
-                let _ = eprintln!(output; "{more} more in a second: {line}");
+    /// Says how many lines were left out.
+    pub fn tell<E: Eprint>(self, output: &E) {
+        for known in &self.texts {
+            if known.count > LINES_A_SECOND {
+                let more = known.count - LINES_A_SECOND;
+                let text = known.text.as_str();
+                let _ = eprintln!(output; "{more} more in a second: {text}");
             }
         }
         if self.others > 0 {
             let others = self.others;
             let _ = eprintln!(output; "{others} more lines in a second");
         }
-        self.texts.clear();
-        self.others = 0;
+    }
+}
+
+/// The text of a line: what it says, without whose session it says it of, and without the system's
+/// reason.
+fn text_of(line: &str) -> &str {
+    match line.split_once(": ") {
+        Some((whose, text)) if whose.starts_with("session of ") => text,
+        Some(("cannot accept", _)) => "cannot accept",
+        _ => line,
     }
 }

@@ -62,8 +62,8 @@ pub fn history_site<R: Files<File = File> + Eprint + AllocGlobal>(
     }
 }
 
-/// The site of a folder that has no site file: that of the given one, which is kept under this path.
-/// A folder with chapters has lost its own, and so the program ends.
+/// The site of a folder that has no site file: that of the given one, which is kept under this
+/// path. A folder with chapters has lost its own, and so the program ends.
 fn first_site<R: Files<File = File> + Eprint + AllocGlobal>(
     rt: &R,
     folder: &HistoryFolder<'_, R>,
