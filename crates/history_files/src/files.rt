@@ -71,11 +71,14 @@ pub fn open_by<R: Files<File = File>>(
     options.open(rt, name)?.try_clone()
 }
 
-/// All octets of the file of this name. What is no file isn't opened: it might never end.
-pub fn read_file<R: Files + AllocGlobal>(rt: &R, name: &str) -> io::Result<Vec<u8>> {
-    if fs::metadata(rt, name)?.is_file() {
-        fs::read(rt, name)
-    } else {
-        Err(io::Error::from(ErrorKind::InvalidInput))
+/// All octets of the file of this name, which are on the disk then: whoever put the file there, a
+/// backup that was restored, say, may not have flushed it. What is no file isn't opened: it might
+/// never end.
+pub fn read_file<R: Files<File = File> + AllocGlobal>(rt: &R, name: &str) -> io::Result<Vec<u8>> {
+    if !fs::metadata(rt, name)?.is_file() {
+        return Err(io::Error::from(ErrorKind::InvalidInput));
     }
+    let octets = fs::read(rt, name)?;
+    File::open(rt, name)?.sync_data()?;
+    Ok(octets)
 }
