@@ -13,6 +13,7 @@ use mio::net::{TcpListener, TcpStream};
 use mio::{Registry, Token};
 use site_base::NoMemory;
 use site_book::{NamedSale, SiteBook};
+use site_json::PeerSession;
 use site_page::Page;
 use stamps::Stamp;
 use std::alloc::Global;
@@ -95,14 +96,16 @@ impl Pages {
     }
 
     /// Each connection that is ready has its turn with the page of the book, of which these are
-    /// the unpaid transactions. `connections` is how many peers the station has; of its history,
-    /// `opened` is the time of the open shift's first row, and `seal` the last seal.
+    /// the unpaid transactions. `connections` is how many peers the station has, and `sessions` are
+    /// theirs; of its history, `opened` is the time of the open shift's first row, and `seal` the
+    /// last seal.
     pub fn answer_due(
         &mut self,
         registry: &Registry,
         book: &SiteBook,
         unpaid: &[NamedSale],
         connections: usize,
+        sessions: &[PeerSession],
         opened: Option<Stamp>,
         seal: Option<&str>,
         now: Instant,
@@ -110,7 +113,15 @@ impl Pages {
         requires { unpaid.now ≡ unpaid_sales book.now }
     {
         self.is_due = false;
-        match page_of(self.alloc, book, unpaid, connections, opened, seal) {
+        match page_of(
+            self.alloc,
+            book,
+            unpaid,
+            connections,
+            sessions,
+            opened,
+            seal,
+        ) {
             Ok(page) => self.take_turns(registry, &page, now),
             Err(NoMemory) => self.close_due(),
         }
@@ -206,22 +217,24 @@ impl Pages {
     }
 }
 
-/// The page of a book with these unpaid transactions, so many connections, this time of the open
-/// shift's first row and this last seal.
+/// The page of a book with these unpaid transactions, so many connections, these sessions, this
+/// time of the open shift's first row and this last seal.
 fn page_of(
     alloc: Global,
     book: &SiteBook,
     unpaid: &[NamedSale],
     connections: usize,
+    sessions: &[PeerSession],
     opened: Option<Stamp>,
     seal: Option<&str>,
 ) -> Result<Page, NoMemory>
     requires { unpaid.now ≡ unpaid_sales book.now }
     ensures site { IfOk result (λ page. page.site ≡ compact_text
-        (site_data book.now (unpaid_sales book.now) connections opened (option_copied seal.entry))) }
+        (site_data book.now (unpaid_sales book.now) connections sessions.now opened
+        (option_copied seal.entry))) }
     ensures seal { IfOk result (λ page. page.seal ≡ seal_line (option_copied seal.entry)) }
 {
-    Page::of_book(alloc, book, unpaid, connections, opened, seal)
+    Page::of_book(alloc, book, unpaid, connections, sessions, opened, seal)
 }
 
 /// Closes a connection, if there is one.

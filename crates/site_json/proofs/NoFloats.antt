@@ -1,5 +1,5 @@
 -- No number of a site is a float.
-use Rattle.std.proofs.Common.{◌≡◌, ℕ, false, List, [], ◌∷◌, Option, Some, None}
+use Rattle.std.proofs.Common.{◌≡◌, ℕ, Bool, false, List, [], ◌∷◌, Option, Some, None}
 use Rattle.std.proofs.Common.{refl}
 use Rattle.serde_json.specs.View.{items_of}
 use Rattle.serde_json.specs.Written.{has_float, items_have_float}
@@ -13,6 +13,8 @@ use Rattle.site_book.specs.Book.{Book, site_of_book}
 use Rattle.site_json.specs.Figures.{figure_if, text_if}
 use Rattle.site_json.specs.Points.{cents_so_far, fuelling_data, point_data, points_data}
 use Rattle.site_json.specs.Points.{preset_cents, preset_millilitres, product_out}
+use Rattle.site_json.specs.declared.sessions.PeerSession.{PeerSession}
+use Rattle.site_json.specs.Sessions.{is_connected, session_data}
 use Rattle.site_json.specs.SiteData.{site_data}
 use Rattle.site_json.specs.Tills.{till_data}
 use Rattle.site_json.specs.Transactions.{transaction_data}
@@ -35,8 +37,9 @@ no_float_fuelling v =
       no_float_if (preset_millilitres v.preset),
     ) refl
 
-no_float_point : (e : PointEntry) (v : PointView) → has_float (point_data e v) ≡ false
-no_float_point e v =
+no_float_point : (connected : Bool) (e : PointEntry) (v : PointView)
+    → has_float (point_data connected e v) ≡ false
+no_float_point connected e v =
     rw (
       no_float_fuelling v,
       no_float_if v.holder,
@@ -44,30 +47,36 @@ no_float_point e v =
       no_float_if (product_out e.nozzles v.out),
     ) refl
 
-no_float_points : (s : SiteState) (es : List PointEntry)
-    → items_have_float (items_of (points_data s es)) ≡ false
-no_float_points s [] = refl
-no_float_points s (e ∷ es) = by (view_point s e.number) refl (no_float_points s es)
+no_float_points : (s : SiteState) (xs : List PeerSession) (es : List PointEntry)
+    → items_have_float (items_of (points_data s xs es)) ≡ false
+no_float_points s xs [] = refl
+no_float_points s xs (e ∷ es) = by (view_point s e.number) refl (no_float_points s xs es)
   where
     by : (o : Option PointView) → view_point s e.number ≡ o
-        → items_have_float (items_of (points_data s es)) ≡ false
-        → items_have_float (items_of (points_data s (e ∷ es))) ≡ false
+        → items_have_float (items_of (points_data s xs es)) ≡ false
+        → items_have_float (items_of (points_data s xs (e ∷ es))) ≡ false
     by None is rest = rw is rest
-    by (Some v) is rest = rw is (rw (no_float_point e v) rest)
+    by (Some v) is rest =
+        rw is (rw (no_float_point (is_connected xs e.number) e v) rest)
+
+no_float_session : (x : PeerSession) → has_float (session_data x) ≡ false
+no_float_session x = rw (no_float_text x.since) refl
 
 no_float_transaction : (x : NamedSale) → has_float (transaction_data x) ≡ false
 no_float_transaction x =
     rw (no_float_if x.sale.prepaid, no_float_if (till_of x.sale.standing)) refl
 
 pub no_float_site : (b : Book) (unpaid : List NamedSale) (connections : ℕ)
-    (opened seal : Option (List ℕ)) → has_float (site_data b unpaid connections opened seal) ≡ false
-no_float_site b unpaid connections opened seal =
+    (sessions : List PeerSession) (opened seal : Option (List ℕ))
+    → has_float (site_data b unpaid connections sessions opened seal) ≡ false
+no_float_site b unpaid connections sessions opened seal =
     let s : SiteState = site_of_book b in
     rw (
       no_float_text opened,
       no_float_text seal,
-      no_float_points s b.config.points,
+      no_float_points s sessions b.config.points,
       no_float_products b.config.products (product_totals s),
+      no_float_mapped session_data sessions no_float_session,
       no_float_mapped (till_data s) tills (λ t. refl),
       no_float_mapped transaction_data unpaid no_float_transaction,
     ) refl

@@ -1,4 +1,5 @@
 pub mod Figures
+pub mod Sessions
 pub mod Points
 pub mod Tills
 pub mod Transactions

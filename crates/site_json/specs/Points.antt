@@ -1,5 +1,5 @@
 -- A fuelling point as JSON. Members stand in the order of their names.
-use Rattle.std.specs.Prelude.{ℕ, ◌&&◌, if◌then◌else◌, List, [], ◌∷◌, codes, nat_le, flat_map}
+use Rattle.std.specs.Prelude.{ℕ, Bool, ◌&&◌, if◌then◌else◌, List, [], ◌∷◌, codes, nat_le, flat_map}
 use Rattle.std.specs.Prelude.{Option, Some, None, option_and_then, option_map}
 use Rattle.serde_json.specs.Data.{Data, boolean, string, object, member, no_members}
 use Rattle.site_base.specs.declared.config.NozzleEntry.{NozzleEntry}
@@ -17,7 +17,9 @@ use Rattle.site_base.specs.Ranges.{is_between}
 use Rattle.site_base.specs.States.{state_number}
 use Rattle.written_site.specs.SiteState.{SiteState, view_point}
 use Rattle.day_report.specs.Figures.{figure}
+use Rattle.site_json.specs.declared.sessions.PeerSession.{PeerSession}
 use Rattle.site_json.specs.Figures.{figure_if}
+use Rattle.site_json.specs.Sessions.{is_connected}
 
 -- the name of a state
 abbrev pub state_word : PointState → List ℕ
@@ -68,10 +70,11 @@ fuelling_data v =
     (member (codes "test") (boolean v.test)
     no_members))))))))
 
--- a point of the configuration as a read shows it
-abbrev pub point_data : PointEntry → PointView → Data
-point_data e v =
+-- a point of the configuration as a read shows it, whose dispenser is connected or not
+abbrev pub point_data : Bool → PointEntry → PointView → Data
+point_data connected e v =
     object
+    (member (codes "dispenser connected") (boolean connected)
     (member (codes "fuelling") (fuelling_data v)
     (member (codes "holder") (figure_if v.holder)
     (member (codes "nozzle") (figure_if v.out)
@@ -79,16 +82,16 @@ point_data e v =
     (member (codes "product") (figure_if (product_out e.nozzles v.out))
     (member (codes "state") (figure (state_number v.state))
     (member (codes "state name") (string (state_word v.state))
-    no_members)))))))
+    no_members))))))))
 
--- a configured point as the site has it
-abbrev pub point_shown : SiteState → PointEntry → List Data
-point_shown s e = data_shown e (view_point s e.number)
+-- a configured point as the site has it, beside these sessions
+abbrev pub point_shown : SiteState → List PeerSession → PointEntry → List Data
+point_shown s sessions e = data_shown e (view_point s e.number)
   where
     data_shown : PointEntry → Option PointView → List Data
     data_shown e None = []
-    data_shown e (Some v) = point_data e v ∷ []
+    data_shown e (Some v) = point_data (is_connected sessions e.number) e v ∷ []
 
 -- the configured points, in their order
-abbrev pub points_data : SiteState → List PointEntry → List Data
-points_data s points = flat_map (point_shown s) points
+abbrev pub points_data : SiteState → List PeerSession → List PointEntry → List Data
+points_data s sessions points = flat_map (point_shown s sessions) points

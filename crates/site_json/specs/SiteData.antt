@@ -9,15 +9,17 @@ use Rattle.written_site.specs.SiteState.{open_shift}
 use Rattle.day_report.specs.Figures.{figure, listed}
 use Rattle.kept_history.specs.KeptRows.{kept_rows}
 use Rattle.site_json.specs.Figures.{text_if}
+use Rattle.site_json.specs.declared.sessions.PeerSession.{PeerSession}
 use Rattle.site_json.specs.Points.{points_data}
+use Rattle.site_json.specs.Sessions.{sessions_data}
 use Rattle.day_report.specs.Products.{products_data}
 use Rattle.site_json.specs.Tills.{tills_data}
 use Rattle.site_json.specs.Transactions.{transactions_data}
 
--- a book's figures, with so many connections, of its history this time of the open shift's first row
--- and this last seal, and with these lists of what stands at its site
-abbrev pub whole_data : Book → ℕ → Data → Data → Data → Data → Data → Data → Data
-whole_data b connections opened seal points products tills transactions =
+-- a book's figures, with so many connections, of its history this time of the open shift's first
+-- row and this last seal, and with these lists of what stands at its site, sessions among them
+abbrev pub whole_data : Book → ℕ → Data → Data → Data → Data → Data → Data → Data → Data
+whole_data b connections opened seal points products sessions tills transactions =
     object
     (member (codes "connections") (figure connections)
     (member (codes "opened") opened
@@ -25,17 +27,20 @@ whole_data b connections opened seal points products tills transactions =
     (member (codes "products") products
     (member (codes "rows") (figure (length (kept_rows b.rows)))
     (member (codes "seal") seal
+    (member (codes "sessions") sessions
     (member (codes "shift") (figure (open_shift (site_of_book b)))
     (member (codes "tills") tills
     (member (codes "transactions") transactions
-    no_members)))))))))
+    no_members))))))))))
 
--- the site of a book, with these transactions, so many connections, and of its history, if there is
--- one, the time of the open shift's first row and the last seal
-abbrev pub site_data : Book → List NamedSale → ℕ → Option (List ℕ) → Option (List ℕ) → Data
-site_data b unpaid connections opened seal =
+-- the site of a book, with these transactions, so many connections, these sessions, and of its
+-- history, if there is one, the time of the open shift's first row and the last seal
+abbrev pub site_data : Book → List NamedSale → ℕ → List PeerSession → Option (List ℕ)
+    → Option (List ℕ) → Data
+site_data b unpaid connections sessions opened seal =
     whole_data b connections (text_if opened) (text_if seal)
-    (listed (points_data (site_of_book b) b.config.points))
+    (listed (points_data (site_of_book b) sessions b.config.points))
     (listed (products_data b.config.products (product_totals (site_of_book b))))
+    (listed (sessions_data sessions))
     (listed (tills_data (site_of_book b)))
     (listed (transactions_data unpaid))

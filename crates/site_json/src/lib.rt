@@ -1,11 +1,14 @@
 //! A site as JSON, for programs and for the page: what stands at its points, in its products, at
-//! its tills and unpaid. The values are the views of a book's site, their texts compact.
+//! its tills and unpaid, and who is connected. The values are the views of a book's site, their
+//! texts compact.
 #![tactic(auto)]
 
 mod figures;
 mod points;
+mod sessions;
 mod tills;
 mod transactions;
 mod whole_site;
 
+pub use sessions::PeerSession;
 pub use whole_site::{site_text, site_value};

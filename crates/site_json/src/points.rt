@@ -8,6 +8,7 @@ ghost use Rattle.site_json.specs.Points.{points_data, preset_cents, preset_milli
 ghost use Rattle.site_json.specs.Points.{product_out, state_word};
 
 use crate::figures::{figure_if, widen};
+use crate::sessions::{PeerSession, is_connected};
 use serde_json::{Value, json};
 use site_base::{
     Millilitres, Mills, NoMemory, NozzleNo, PointEntry, PointState, PointView, Preset, TillNo,
@@ -16,18 +17,19 @@ use site_base::{
 use site_book::SiteBook;
 use std::alloc::{AllocError, Global};
 
-/// The configured points, in their order.
+/// The configured points, in their order, beside these sessions.
 pub fn point_values(
     alloc: Global,
     book: &SiteBook,
+    sessions: &[PeerSession],
     points: &[PointEntry],
 ) -> Result<Vec<Value>, NoMemory>
     ensures { IfOk result (λ values.
-        map view values.items ≡ points_data (site_of_book book.now) points.now) }
+        map view values.items ≡ points_data (site_of_book book.now) sessions.now points.now) }
 {
     let mut values = Vec::new(alloc);
     for point in points {
-        add_point(alloc, book, point, &mut values)?;
+        add_point(alloc, book, sessions, point, &mut values)?;
     }
     Ok(values)
 }
@@ -36,27 +38,36 @@ pub fn point_values(
 fn add_point(
     alloc: Global,
     book: &SiteBook,
+    sessions: &[PeerSession],
     point: &PointEntry,
     values: &mut Vec<Value>,
 ) -> Result<(), NoMemory>
-    ensures { OnOk result (map view values.new.items
-        ≡ map view values.old.items ++ point_shown (site_of_book book.now) point.now) }
+    ensures { OnOk result (map view values.new.items ≡ map view values.old.items
+        ++ point_shown (site_of_book book.now) sessions.now point.now) }
 {
     if let Some(shown) = book.point(point.number) {
-        values.push(point_value(alloc, point, &shown)?)?;
+        let is_connected = is_connected(sessions, point.number);
+        values.push(point_value(alloc, is_connected, point, &shown)?)?;
     }
     Ok(())
 }
 
-/// A point as a read shows it.
-fn point_value(alloc: Global, point: &PointEntry, shown: &PointView) -> Result<Value, AllocError>
-    ensures { IfOk result (λ value. view value ≡ point_data point.now shown.now) }
+/// A point as a read shows it, whose dispenser is connected or not.
+fn point_value(
+    alloc: Global,
+    is_connected: bool,
+    point: &PointEntry,
+    shown: &PointView,
+) -> Result<Value, AllocError>
+    ensures { IfOk result (λ value.
+        view value ≡ point_data is_connected point.now shown.now) }
 {
     let fuelling = fuelling_value(alloc, shown)?;
     let holder = figure_if(till_number(shown.holder));
     let nozzle = figure_if(nozzle_number(shown.out));
     let product = figure_if(product_out(point, shown.out));
     json!(in alloc; {
+        "dispenser connected": is_connected,
         "fuelling": fuelling,
         "holder": holder,
         "nozzle": nozzle,

@@ -8,12 +8,14 @@ ghost use Rattle.written_site.specs.ShiftFigures.{product_totals};
 ghost use Rattle.day_report.specs.Figures.{listed};
 ghost use Rattle.site_json.specs.Points.{points_data};
 ghost use Rattle.day_report.specs.Products.{products_data};
+ghost use Rattle.site_json.specs.Sessions.{sessions_data};
 ghost use Rattle.site_json.specs.SiteData.{site_data, whole_data};
 ghost use Rattle.site_json.specs.Tills.{tills_data};
 ghost use Rattle.site_json.specs.Transactions.{transactions_data};
 
 use crate::figures::{text_if, time_if};
 use crate::points::point_values;
+use crate::sessions::{PeerSession, session_values};
 use crate::tills::till_values;
 use crate::transactions::transaction_values;
 use day_report::product_values;
@@ -25,22 +27,25 @@ use std::alloc::{AllocError, Global};
 
 /// The site of a book: its points, its products with the figures of a read, its tills with their
 /// clears in the open shift, that shift, how many rows there are; with these transactions, which
-/// the caller has found unpaid, so many connections, and of its history, if there is one, the time
-/// of the open shift's first row and the last seal.
+/// the caller has found unpaid, so many connections, these sessions, and of its history, if there
+/// is one, the time of the open shift's first row and the last seal.
 pub fn site_value(
     alloc: Global,
     book: &SiteBook,
     unpaid: &[NamedSale],
     connections: usize,
+    sessions: &[PeerSession],
     opened: Option<Stamp>,
     seal: Option<&str>,
 ) -> Result<Value, NoMemory>
     ensures { IfOk result (λ value. view value
-        ≡ site_data book.now unpaid.now connections opened (option_copied seal.entry)) }
+        ≡ site_data book.now unpaid.now connections sessions.now opened
+        (option_copied seal.entry)) }
 {
     let opened = time_if(alloc, &opened)?;
     let seal = text_if(alloc, seal)?;
-    let points = points_value(alloc, book)?;
+    let points = points_value(alloc, book, sessions)?;
+    let sessions = sessions_value(alloc, sessions)?;
     let products = products_value(alloc, book)?;
     let tills = tills_value(alloc, book)?;
     let transactions = transactions_value(alloc, unpaid)?;
@@ -52,6 +57,7 @@ pub fn site_value(
         seal,
         points,
         products,
+        sessions,
         tills,
         transactions,
     )?)
@@ -63,13 +69,16 @@ pub fn site_text(
     book: &SiteBook,
     unpaid: &[NamedSale],
     connections: usize,
+    sessions: &[PeerSession],
     opened: Option<Stamp>,
     seal: Option<&str>,
 ) -> Result<String, NoMemory>
     ensures { IfOk result (λ text. string_bytes text ≡ compact_text
-        (site_data book.now unpaid.now connections opened (option_copied seal.entry))) }
+        (site_data book.now unpaid.now connections sessions.now opened
+        (option_copied seal.entry))) }
 {
-    Ok(site_value(alloc, book, unpaid, connections, opened, seal)?.to_string(alloc)?)
+    let site = site_value(alloc, book, unpaid, connections, sessions, opened, seal)?;
+    Ok(site.to_string(alloc)?)
 }
 
 /// The book's figures, with so many connections, this time of the open shift's first row, this last
@@ -82,11 +91,13 @@ fn whole_value(
     seal: Value,
     points: Value,
     products: Value,
+    sessions: Value,
     tills: Value,
     transactions: Value,
 ) -> Result<Value, AllocError>
     ensures { IfOk result (λ value. view value ≡ whole_data book.now connections
-        (view opened) (view seal) (view points) (view products) (view tills) (view transactions)) }
+        (view opened) (view seal) (view points) (view products) (view sessions) (view tills)
+        (view transactions)) }
 {
     let rows = book.kept_len();
     let shift = book.open_shift().get();
@@ -97,18 +108,27 @@ fn whole_value(
         "products": products,
         "rows": rows,
         "seal": seal,
+        "sessions": sessions,
         "shift": shift,
         "tills": tills,
         "transactions": transactions
     })
 }
 
-/// The configured points, in their order.
-fn points_value(alloc: Global, book: &SiteBook) -> Result<Value, NoMemory>
+/// The configured points, in their order, beside these sessions.
+fn points_value(alloc: Global, book: &SiteBook, sessions: &[PeerSession]) -> Result<Value, NoMemory>
     ensures { IfOk result (λ value. view value
-        ≡ listed (points_data (site_of_book book.now) book.now.config.points)) }
+        ≡ listed (points_data (site_of_book book.now) sessions.now book.now.config.points)) }
 {
-    Ok(Value::Array(point_values(alloc, book, book.config().points())?))
+    let points = book.config().points();
+    Ok(Value::Array(point_values(alloc, book, sessions, points)?))
+}
+
+/// These sessions.
+fn sessions_value(alloc: Global, sessions: &[PeerSession]) -> Result<Value, NoMemory>
+    ensures { IfOk result (λ value. view value ≡ listed (sessions_data sessions.now)) }
+{
+    Ok(Value::Array(session_values(alloc, sessions)?))
 }
 
 /// The tills that a site may have.

@@ -41,6 +41,11 @@ p{margin:0;white-space:nowrap;overflow:hidden;text-overflow:ellipsis}
 .row h2{font-size:1.15em}
 .chip{background:var(--c);color:var(--on);border-radius:3px;padding:0 4px;font-weight:600}
 .who{color:var(--dim);margin-left:auto}
+.marks .gone{color:var(--bad);font-weight:600}
+#who{position:relative}
+summary{cursor:pointer}
+#sessions{position:absolute;z-index:1;top:100%;left:0;max-height:70vh;overflow:auto;
+background:var(--card);border:1px solid var(--edge);border-radius:3px;padding:4px 8px}
 .dim,.marks{color:var(--dim)}
 .sum{font-weight:700}
 .row span,.due span,.title span{flex:none}
@@ -96,7 +101,8 @@ main{display:block}article,.many article{margin:4px 0;padding:5px 8px}
 </style>
 </head>
 <body>
-<header><h1>Forecourt</h1><span id="shift"></span><span id="rows"></span><span id="peers"></span>
+<header><h1>Forecourt</h1><span id="shift"></span><span id="rows"></span>
+<details id="who"><summary id="peers"></summary><div id="sessions"></div></details>
 <span id="seal"></span>
 <span id="state" role="status">no answer yet</span></header>
 <noscript>This page needs JavaScript.</noscript>
@@ -106,6 +112,7 @@ main{display:block}article,.many article{margin:4px 0;padding:5px 8px}
 <script>
 'use strict';
 const PARTS = ['cleared', 'payable', 'locked', 'running', 'adjusted'];
+const SUBNETS = new Map([[2, 'till'], [3, 'dispenser']]);
 const MOST_WAIT = 3000, PAUSE = 1000, SEAL_SHOWN = 12;
 let heard = new Date();
 
@@ -174,7 +181,10 @@ function showPoint(tile, point, names, sales) {
   const nozzle = point.nozzle === null ? '' : point.nozzle + ' ' + name;
   const fuelling = point.fuelling;
   const words = [fuelling.test ? 'test' : '', fuelling.ending ? 'ending' : '', nozzle];
-  putLong(part(marks, 'p', 'limit'), preset(fuelling));
+  const limit = part(marks, 'p', 'limit');
+  const gone = point['dispenser connected'] ? '' : 'no dispenser';
+  limit.classList.toggle('gone', gone !== '');
+  putLong(limit, [gone, preset(fuelling)].filter(word => word !== '').join(', '));
   putLong(part(marks, 'p', 'out'), words.filter(word => word !== '').join(', '));
   const flows = fuelling.cents !== null;
   put(part(run, 'span', 'flowed'), flows ? litres(fuelling.millilitres, 2) + ' l' : '');
@@ -204,6 +214,17 @@ function showTill(line, till) {
   line.title = 'cleared in this shift: ' + till.clears + ' for ' + money(till.cents);
 }
 
+function nodeName(session) {
+  const kind = SUBNETS.get(session.subnet);
+  return kind === undefined ? 'node ' + session.subnet + '/' + session.node :
+    kind + ' ' + session.node;
+}
+
+function showSession(line, session) {
+  const since = session.since === null ? '' : ' since ' + moment(new Date(session.since)) + ',';
+  put(line, nodeName(session) + since + ' heard ' + session['quiet seconds'] + ' s ago');
+}
+
 function show(site) {
   const names = new Map(site.products.map(product => [product.number, product.name]));
   const count = site.points.length;
@@ -223,6 +244,7 @@ function show(site) {
   at('shift').title = site.opened || '';
   put(at('rows'), site.rows + ' rows');
   put(at('peers'), site.connections + ' connections');
+  fill(at('sessions'), 'p', site.sessions, showSession);
   put(at('seal'), site.seal === null ? '' : 'last seal ' + site.seal.slice(0, SEAL_SHOWN));
   at('seal').title = site.seal || '';
   const unpaid = site.transactions.length;

@@ -15,7 +15,7 @@ use http::{HeaderValue, Request, StatusCode, header};
 use http_server::{Response, Service};
 use site_base::NoMemory;
 use site_book::{NamedSale, SiteBook};
-use site_json::site_text;
+use site_json::{PeerSession, site_text};
 use stamps::Stamp;
 use std::alloc::{AllocError, Global};
 
@@ -30,21 +30,23 @@ pub struct Page {
 
 impl Page {
     /// The page of a book's site, with these transactions, which the caller has found unpaid, so
-    /// many connections, and of its history the time of the open shift's first row and the last
-    /// seal. It stays as it is while the book goes on.
+    /// many connections, these sessions, and of its history the time of the open shift's first row
+    /// and the last seal. It stays as it is while the book goes on.
     pub fn of_book(
         alloc: Global,
         book: &SiteBook,
         unpaid: &[NamedSale],
         connections: usize,
+        sessions: &[PeerSession],
         opened: Option<Stamp>,
         seal: Option<&str>,
     ) -> Result<Page, NoMemory>
         ensures site { IfOk result (λ page. page.site ≡ compact_text
-            (site_data book.now unpaid.now connections opened (option_copied seal.entry))) }
+            (site_data book.now unpaid.now connections sessions.now opened
+            (option_copied seal.entry))) }
         ensures seal { IfOk result (λ page. page.seal ≡ seal_line (option_copied seal.entry)) }
     {
-        let text = site_text(alloc, book, unpaid, connections, opened, seal)?;
+        let text = site_text(alloc, book, unpaid, connections, sessions, opened, seal)?;
         Ok(Page {
             site: Bytes::from_string(text)?,
             seal: seal_line(alloc, seal)?,
@@ -70,9 +72,9 @@ impl Service for Page {
     ghost answers = { λ old request response new.
         IsPageAnswer old request response × (new ≡ old) };
 
-    /// `GET` and `HEAD` of `/` are answered with the page, of `/site.json` with the site, of `/seal`
-    /// with the last seal, if there is a history; of any other path it is 404, and for any other
-    /// method 405.
+    /// `GET` and `HEAD` of `/` are answered with the page, of `/site.json` with the site, of
+    /// `/seal` with the last seal, if there is a history; of any other path it is 404, and for any
+    /// other method 405.
     fn call(
         &mut self,
         request: &Request<Bytes>,

@@ -5,6 +5,6 @@
 pub const POLICY: &str = concat!(
     "default-src 'none'; base-uri 'none'; form-action 'none'; frame-ancestors 'none'; ",
     "connect-src 'self'; ",
-    "style-src 'sha256-33Yay0cbrQwu1TZwBaJsKYBPMgO5dgfhjLanTIfB+Js='; ",
-    "script-src 'sha256-qMnNBUry/sx1NYJYPqcFub1G/Eitat3DidkvF2jlVYk='",
+    "style-src 'sha256-2rG21zvoTGAWSgZyL2P60PwxIOcCuoyuBxWelo6cflg='; ",
+    "script-src 'sha256-9uJQgxvUrmEPVcSa8TbtF347m44gc0vDwIs0orSPLa0='",
 );

@@ -7,7 +7,7 @@ use Rattle.site_json.proofs.whole_site.site_text.Goals as goal
 pub returns : goal.returns
 returns c =
     c.in_ok-to_string.ensures.text
-    (ap has_float c.in_ok-site_value.ensures
-    ∙ no_float_site c.args.book.now c.args.unpaid.now c.args.connections
+    (ap has_float c.in_ok-site.ensures
+    ∙ no_float_site c.args.book.now c.args.unpaid.now c.args.connections c.args.sessions.now
     c.args.opened (option_copied c.args.seal))
-    ∙ ap compact_text c.in_ok-site_value.ensures
+    ∙ ap compact_text c.in_ok-site.ensures

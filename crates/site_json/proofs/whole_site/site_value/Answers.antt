@@ -9,6 +9,7 @@ returns c =
       c.in_ok-seal.ensures,
       c.in_ok-points.ensures,
       c.in_ok-products.ensures,
+      c.in_ok-sessions.ensures,
       c.in_ok-tills.ensures,
       c.in_ok-transactions.ensures,
     ) refl
