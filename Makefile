@@ -19,7 +19,7 @@ help:
 	@echo '              tills that collide; what a message costs with 5 and 64 points and with up to'
 	@echo '              100,000 sales, a row of a book of a million, and a request of a server and of'
 	@echo '              a station beside an echo; with a history beside Redis, and a start on one;'
-	@echo '              tills beside a page that is looked at'
+	@echo '              tills beside a page that is looked at, and a day beside a flood'
 
 run:
 	@cd crates/forecourt && rt try < stdin
@@ -49,4 +49,5 @@ bench: build
 	@scripts/bench/station $(PROGRAM)
 	@scripts/bench/station --history $(PROGRAM)
 	@scripts/bench/station --page $(PROGRAM)
+	@scripts/bench/flood $(PROGRAM)
 	@scripts/bench/instructions $(PROGRAM)

@@ -9,23 +9,27 @@ read back row by row."""
 import contextlib
 import itertools
 import os
+import resource
+import select
 import signal
 import socket
 import stat
+import statistics
 import subprocess
 import sys
 import threading
 import time
 import typing
 
+from shared import floods
 from shared.checks import Failed, Skipped, expect
 from shared.histories import DETAIL, read_chapters, read_rows
-from shared.running import PATIENCE, run
+from shared.running import PATIENCE, compile_c, run
 from shared.serving import WAIT, list_addresses, start_day, wait_until
 from shared.station import (
-    ACKNOWLEDGE, CLOSE_SHIFT, DISPENSER, EXAMPLES, FIVE_POINTS, FLOW, HANG_UP, KNOWN_SITE, LIFT,
-    NOTICE, OPEN, OUTCOME, RELEASE, REPORT, RESULT, SITE, SUSPEND, TERMINATE, TILL, WRITE,
-    address_point, ask_site, command_point, decode, encode, read_point, read_product,
+    ACKNOWLEDGE, CLEAR, CLOSE_SHIFT, DISPENSER, EXAMPLES, FIVE_POINTS, FLOW, HANG_UP, KNOWN_SITE,
+    LIFT, LOCK, NOTICE, OPEN, OUTCOME, RELEASE, REPORT, RESULT, SITE, SUSPEND, TERMINATE, TILL,
+    WRITE, address_point, ask_site, command_point, command_sale, decode, encode, read_point, read_product,
     read_sale, read_site, receive_all, receive_message, report, sign_off, sign_on, write_site,
 )  # fmt: skip
 from tests.built import PROGRAM
@@ -36,7 +40,8 @@ ONLINE, OFFLINE, SET_PRICE = 0x60, 0x61, 0x90
 STATE, PRICE, VOLUME, STATUS = 0x10, 0x72, 0x73, 0x78
 INOPERATIVE, CLOSED, IDLE, CALLING, AUTHORISED, STARTED = 1, 2, 3, 4, 5, 6
 SUSPENDED_STARTED, FUELLING, SUSPENDED_FUELLING = 7, 8, 9
-NOT_SIGNED_ON, SIGNED_ON, WRONG_STATE, ANOTHER_NODE = 1, 2, 10, 57
+NOT_SIGNED_ON, SIGNED_ON, WRONG_STATE, LOCKED_BY_OTHER, ANOTHER_NODE = 1, 2, 10, 20, 57
+UNLOCK = 0x81
 DONE, SOLD = 0, 6
 PAYABLE = 2
 MOST_PEERS, MOST_OF_A_NODE = 1_024, 4
@@ -50,9 +55,11 @@ class Missing(Failed):
     """The peer is gone where it was to answer."""
 
 
-def start_station(*words, site=KNOWN_SITE, port=0):
-    command = [PROGRAM, "station", site, "--port", port, *words]
-    return start_day([*map(str, command)], rate=None, stdin=-1, umask=0)
+def start_station(*words, site=KNOWN_SITE, port=0, **how):
+    """A station on this port, or on none."""
+    place = [] if port is None else ["--port", port]
+    command = [PROGRAM, "station", site, *place, *words]
+    return start_day([*map(str, command)], rate=None, stdin=-1, umask=0, **how)
 
 
 def end(day, told=None):
@@ -129,7 +136,7 @@ def is_closed(peer, seconds=PATIENCE):
         return peer.recv(1) == b""
     except ConnectionError:
         return True
-    except TimeoutError:
+    except (TimeoutError, BlockingIOError):
         return False
 
 
@@ -177,9 +184,9 @@ class Doors:
         return peer
 
 
-def expect_refused_start(what, words, wanted):
+def expect_refused_start(what, words, wanted, port=0):
     """A start on these words ends with this line, before it listens."""
-    ended = run(PROGRAM, "station", KNOWN_SITE, "--port", "0", *map(str, words), given=b"")
+    ended = run(PROGRAM, "station", KNOWN_SITE, "--port", *map(str, [port, *words]), given=b"")
     told = ended.err.splitlines()[-1:]
     got = (ended.status, b"listening" in ended.out, told)
     expect(what, got, (1, False, [wanted]))
@@ -256,6 +263,62 @@ def sockets_of_earlier_runs():
 
 
 @test
+def starts_at_the_same_time():
+    """Of eight stations that are started at once on one folder of doors, in which an earlier run
+    left its sockets, one has them all, and the others say that they are in use."""
+    nodes = ("till-01", "till-02", "dispenser-01")
+    doors, command = Doors("at once", *nodes), [PROGRAM, "station", KNOWN_SITE, "--doors"]
+    for _ in range(10):
+        with start_station("--doors", doors.folder) as day:
+            kill(day)
+        with contextlib.ExitStack() as stack:
+            words = [*map(str, command), str(doors.folder)]
+            how = {"stdin": -1, "stdout": -1, "stderr": -1}
+            days = [stack.enter_context(subprocess.Popen(words, **how)) for _ in range(8)]
+            stack.callback(lambda days=days: [day.kill() for day in days])
+            said = [day.stdout.readline() for day in days]
+            serving = [day for day, line in zip(days, said) if line]
+            expect("stations that serve", len(serving), 1)
+            for node in nodes:
+                with doors.connect(node) as peer:
+                    peer.sendall(encode((SITE, 1), (9, 9), 0, 1, b"\x01"))
+                    expect(f"{node} is served", len(receive_all(peer)) > 0, True)
+            for day in days:
+                if day not in serving:
+                    _, err = day.communicate(timeout=WAIT)
+                    wanted = (1, b"door dispenser-01: in use\n")
+                    expect("another one", (day.returncode, err.split(b"kept\n")[-1]), wanted)
+            serving[0].kill()
+            serving[0].wait()
+    return 10
+
+
+@test
+def starts_that_fail_leave_no_socket():
+    """A start that fails behind its doors, at a later door, at the port or at the page's, removes
+    the sockets that it made; and so does a day at its end."""
+    doors = Doors("leaves", "dispenser-01", "till-01")
+    first, last = doors.path("dispenser-01"), doors.path("till-01")
+    last.write_text("somebody's\n")
+    words = ["--doors", doors.folder]
+    expect_refused_start("a later door", words, "door till-01: cannot listen")
+    expect("the first socket", first.exists(), False)
+    expect("the file", last.read_text(), "somebody's\n")
+    last.unlink()
+    with socket.create_server(("127.0.0.1", 0)) as taken:
+        port = taken.getsockname()[1]
+        expect_refused_start("the page's port", [*words, "--page", port], "fault 63")
+        expect("sockets", [first.exists(), last.exists()], [False, False])
+        expect_refused_start("the port", words, "fault 63", port)
+        expect("sockets", [first.exists(), last.exists()], [False, False])
+    with start_station(*words) as day:
+        expect("sockets", [first.is_socket(), last.is_socket()], [True, True])
+        end(day)
+    expect("at the day's end", [first.exists(), last.exists()], [False, False])
+    return 4
+
+
+@test
 def wrong_doors():
     """A subfolder that is no node's ends the start; so does a door at which nothing can listen."""
     names = (
@@ -265,14 +328,23 @@ def wrong_doors():
     for name in names:
         doors = Doors(f"wrong-{name}", "till-02", name)
         expect_refused_start(name, ["--doors", doors.folder], f"door {name}: no node")
-    for kind in ("a file", "a folder"):
+    kinds = {
+        "a file": lambda path: path.write_text("somebody's\n"),
+        "a folder": lambda path: path.mkdir(),
+        "a pipe": os.mkfifo,
+        "a link": lambda path: path.symlink_to("elsewhere"),
+    }
+    for kind, make in kinds.items():
         doors = Doors(f"taken by {kind}", "dispenser-64")
         path = doors.path("dispenser-64")
-        path.mkdir() if kind == "a folder" else path.write_text("somebody's\n")
+        make(path)
+        before = path.lstat()
         why = "door dispenser-64: cannot listen"
         expect_refused_start(kind, ["--doors", doors.folder], why)
-        expect(f"{kind} is left", path.is_dir() or path.read_text() == "somebody's\n", True)
-    return len(names) + 2
+        left = path.lstat()
+        wanted = (before.st_ino, before.st_mode, before.st_size)
+        expect(f"{kind} is left", (left.st_ino, left.st_mode, left.st_size), wanted)
+    return len(names) + len(kinds)
 
 
 @test
@@ -281,11 +353,16 @@ def modes_stay():
     its sockets can be used by whoever gets into their folder."""
     doors = Doors("modes", "till-01", "till-02", "dispenser-01")
     modes = {"till-01": 0o700, "till-02": 0o750, "dispenser-01": 0o2770}
-    for node, mode in modes.items():
+    for number, (node, mode) in enumerate(modes.items(), 60_003):
+        if os.geteuid() == 0:
+            os.chown(doors.folder / node, number, number + 1_000)
         (doors.folder / node).chmod(mode)
+    look = lambda path: (path.stat().st_mode, path.stat().st_uid, path.stat().st_gid)
+    before = {node: look(doors.folder / node) for node in modes}
     with start_station("--doors", doors.folder) as day:
         for node, mode in modes.items():
-            expect(node, stat.S_IMODE((doors.folder / node).stat().st_mode), mode)
+            expect(node, look(doors.folder / node), before[node])
+            expect(f"{node}: its mode", stat.S_IMODE(before[node][0]), mode)
             socket_mode = stat.S_IMODE(doors.path(node).stat().st_mode)
             expect(f"{node}: who may connect", socket_mode & 0o222, 0o222)
         expect("folders", {path.name for path in doors.folder.iterdir()}, {*modes})
@@ -373,15 +450,58 @@ def silent_peers_are_closed():
         silent, slow, pump = (stack.enter_context(day.connect()) for _ in range(3))
         begun = time.monotonic()
         expect("a dispenser", detail(ask(pump, say(1))), CLOSED)
-        for octet in sign_on(1)[:8]:
-            slow.sendall(bytes([octet]))
-            time.sleep(1)
-        expect("not yet", is_closed(silent, QUIET), False)
-        for peer in (silent, slow):
-            expect("closed", is_closed(peer, SILENT_SECONDS + LATE), True)
-        took = time.monotonic() - begun
-        expect(f"after {took:.1f} seconds", took >= SILENT_SECONDS - 0.1, True)
+        expect_closed_in_time({"silent": silent, "slow": slow}, begun, slow, sign_on(1)[:-1])
         expect("who has spoken", is_closed(pump, QUIET), False)
+        expect("it is heard", detail(ask(pump, say(1))), CLOSED)
+        end(day)
+
+
+def expect_closed_in_time(peers, begun, slow=None, octets=b""):
+    """Each of these peers is closed ten seconds after it came. To one of them an octet comes each
+    second until then."""
+    sent = 0
+    for what, peer in peers.items():
+        peer.setblocking(False)
+    left = dict(peers)
+    while left and time.monotonic() < begun + SILENT_SECONDS + LATE + 1:
+        passed = time.monotonic() - begun
+        if slow and sent < min(passed, len(octets)) and slow in left.values():
+            slow.send(octets[sent : sent + 1])
+            sent += 1
+        for what, peer in [*left.items()]:
+            if is_closed(peer, 0):
+                expect(f"{what}: {passed:.1f} seconds", passed >= SILENT_SECONDS - 0.1, True)
+                del left[what]
+        time.sleep(0.05)
+    expect("not closed", [*left], [])
+    expect("octets of the slow one", sent >= min(len(octets), SILENT_SECONDS - 1), True)
+
+
+@test_beside
+def silent_peers_at_a_door():
+    """The ten seconds hold at a door, too. Where its four places are taken, a newcomer takes the
+    place of the one that has waited longest without a whole message. Who has spoken keeps its
+    place, silent or not."""
+    doors = Doors("silent", "till-01")
+    with start_station("--doors", doors.folder) as day, contextlib.ExitStack() as stack:
+        come = lambda: stack.enter_context(doors.connect("till-01"))
+        first = come()
+        expect_done(first, sign_on(1))
+        silent = []
+        for _ in range(MOST_OF_A_NODE - 1):
+            silent.append(come())
+            time.sleep(0.1)
+        silent[0].sendall(sign_on(1)[:5])
+        begun = time.monotonic()
+        for n in range(2):
+            expect("a newcomer", is_signed_on(come(), 1), True)
+            expect(f"silent one {n} leaves", is_closed(silent[n]), True)
+        expect("the last one stays", is_closed(silent[2], QUIET), False)
+        expect_closed_in_time({"the last one": silent[2]}, begun)
+        expect("a newcomer", is_signed_on(come(), 1), True)
+        with doors.connect("till-01") as more:
+            expect("a fifth one", is_closed(more), True)
+        expect("who has spoken", is_signed_on(first, 1), True)
         end(day)
 
 
@@ -411,20 +531,119 @@ def four_sessions_of_a_node():
 @test
 def doors_have_their_own_places():
     """1,024 connections of TCP, each of which has spoken, and a door: four sessions have places
-    there, and a fifth one hasn't."""
+    there, and a fifth one hasn't. No connection of TCP leaves for them."""
     doors = Doors("places", "till-01")
-    with start_station("--doors", doors.folder) as day, contextlib.ExitStack() as stack:
-        for n in range(MOST_PEERS):
-            peer = stack.enter_context(day.connect())
-            node = (9, 1 + n // MOST_OF_A_NODE % 250)
-            peer.sendall(encode((SITE, 1), (9 + n // 1_000, node[1]), 0, 1, b"\x01"))
-            receive_message(peer)
+    nodes = [*list_nodes(first_till=2), *list_invented_nodes()]
+    with start_station("--doors", doors.folder, "--rate", 0) as day:
+        with contextlib.ExitStack() as stack:
+            peers = speak_as(stack, day, nodes[: MOST_PEERS // MOST_OF_A_NODE])
+            expect("places that are taken", len(peers), MOST_PEERS)
+            for _ in range(MOST_OF_A_NODE):
+                till = stack.enter_context(doors.connect("till-01"))
+                expect("at the door", number(ask(till, read_site(1, 1))), NOT_SIGNED_ON)
+            with doors.connect("till-01") as more:
+                expect("a fifth one", is_closed(more), True)
+            expect("those that left", count_closed(peers), 0)
+            end(day, None)
+
+
+def list_nodes(first_till=1):
+    """The nodes that a site can have."""
+    tills = [(TILL, number) for number in range(first_till, 33)]
+    return tills + [(DISPENSER, number) for number in range(1, 65)]
+
+
+def list_invented_nodes():
+    """Nodes that no site has: beyond the tills and the dispensers, and of other subnets."""
+    beyond = [(TILL, 0), (TILL, 33), (TILL, 255), (DISPENSER, 0), (DISPENSER, 65), (SITE, 1)]
+    return beyond + [(9, number) for number in range(250)]
+
+
+def speak_as(stack, day, nodes):
+    """Four sessions of each of these nodes, each of which has got an answer."""
+    peers = []
+    for node in nodes:
         for _ in range(MOST_OF_A_NODE):
-            till = stack.enter_context(doors.connect("till-01"))
-            expect("at the door", number(ask(till, read_site(1, 1))), NOT_SIGNED_ON)
-        with doors.connect("till-01") as more:
-            expect("a fifth one", is_closed(more), True)
+            peer = stack.enter_context(day.connect())
+            peer.sendall(encode((SITE, 1), node, 0, 1, b"\x01"))
+            expect(f"an answer to {node}", len(receive_message(peer)) > 0, True)
+            peers.append(peer)
+    return peers
+
+
+def count_closed(peers):
+    """How many of these peers the station has closed."""
+    waiting = select.poll()
+    for peer in peers:
+        waiting.register(peer, select.POLLIN)
+    return len(waiting.poll(0))
+
+
+@test
+def invented_nodes_hold_no_place():
+    """1,024 sessions, all of which have spoken, most of them of nodes that no site has. A dispenser
+    and a till come, and take the places of the two that came first of those; the sessions of nodes
+    that a site can have keep theirs."""
+    newcomers = (TILL, 1), (DISPENSER, 1)
+    known = [node for node in list_nodes() if node not in newcomers][:40]
+    nodes = [*known, *list_invented_nodes()]
+    with start_station("--rate", 0) as day, contextlib.ExitStack() as stack:
+        peers = speak_as(stack, day, nodes[: MOST_PEERS // MOST_OF_A_NODE])
+        expect("places that are taken", len(peers), MOST_PEERS)
+        pump, till = (stack.enter_context(day.connect()) for _ in range(2))
+        expect("a dispenser", detail(ask(pump, say(1))), CLOSED)
+        expect("a till", number(ask(till, read_site(1, 1))), NOT_SIGNED_ON)
+        kept = len(known) * MOST_OF_A_NODE
+        expect("of nodes of a site", count_closed(peers[:kept]), 0)
+        expect("the first two others", count_closed(peers[kept : kept + 2]), 2)
+        expect("the others", count_closed(peers[kept + 2 :]), 0)
+        end(day, None)
+
+
+@test_beside
+def few_descriptors():
+    """With 64 descriptors silent connections take all that are left. A dispenser over TCP, and a
+    till at a door, get through all the same, and that nothing can be accepted isn't said."""
+    doors = Doors("few", "till-01")
+    few = lambda: resource.setrlimit(resource.RLIMIT_NOFILE, (64, 64))
+    with start_station("--doors", doors.folder, preexec_fn=few) as day:
+        with contextlib.ExitStack() as stack:
+            silent = [stack.enter_context(day.connect()) for _ in range(200)]
+            for _ in range(2):
+                pump, till = stack.enter_context(day.connect()), doors.connect("till-01")
+                stack.enter_context(till)
+                expect("a till at its door", number(ask(till, read_site(1, 1))), NOT_SIGNED_ON)
+                expect("a dispenser", detail(ask(pump, say(1))), CLOSED)
+                silent += [stack.enter_context(day.connect()) for _ in range(100)]
+            expect_done(till, sign_on(1))
+            expect("who has spoken", detail(ask(pump, say(1))), CLOSED)
+            expect("most of them left", count_closed(silent) > len(silent) - 64, True)
         end(day)
+
+
+@test_beside
+def accepting_fails_at_doors_alone():
+    """At a station with doors alone, where each descriptor is a session's that has spoken: that
+    accepting fails is said once, however long, and a door is served once there is room again."""
+    nodes = [f"till-{number:02}" for number in range(1, 9)]
+    doors = Doors("spent", *nodes)
+    few = lambda: resource.setrlimit(resource.RLIMIT_NOFILE, (32, 32))
+    with start_station("--doors", doors.folder, port=None, preexec_fn=few) as day:
+        with contextlib.ExitStack() as stack:
+            peers = []
+            for n in range(8 * MOST_OF_A_NODE):
+                peer = stack.enter_context(doors.connect(nodes[n % 8]))
+                peer.sendall(read_site(n % 8 + 1, 1))
+                peers.append(peer)
+            time.sleep(3.5)
+            answered = [peer for peer in peers if select.select([peer], [], [], 0)[0]]
+            expect("some are served", 8 < len(answered) < len(peers), True)
+            for peer in answered[:8]:
+                leave(peer)
+            more = [peer for peer in peers if peer not in answered][0]
+            expect("one that waited", number(decode(receive_message(more))[0]), NOT_SIGNED_ON)
+        told = "cannot accept: Too many open files (os error 24); it is tried again each second\n"
+        end(day, told)
 
 
 # ---- rates
@@ -454,15 +673,15 @@ def floods_are_slowed():
         rows = count_rows(end(day)) - 2
         peer.close()
         thread.join()
-    most = 1_000 * (took + 1.5)
+    most = 1_000 * (took + 0.5)
     expect(f"{rows} rows in {took:.2f} seconds", SHORTEST * 10 < rows <= most, True)
     expect(f"a read took {slowest:.3f} seconds", slowest < 1, True)
 
 
 @test_beside
 def slow_answers_are_the_same():
-    """With --rate 100 a thousand octets are read in a second, and a thousand more at first. All
-    requests are answered as without, only later."""
+    """With --rate 100 a thousand octets are read in a second, from the first one on. All requests
+    are answered as without, only later."""
     sent = sign_on(1) + read_point(1, 2, 3) * 300
     with start_station("--rate", 0) as day:
         with day.connect() as peer:
@@ -484,9 +703,83 @@ def slow_answers_are_the_same():
             took = time.monotonic() - begun
         end(day)
     expect("the same", got, wanted)
-    least = (len(sent) - 1_000) / 1_000
+    least = len(sent) / 1_000
     expect(f"{took:.2f} seconds", least - 0.2 <= took <= least + LATE, True)
-    expect(f"{soon} in half a second", soon * SHORTEST <= 1_600, True)
+    expect(f"{soon} in half a second", soon * SHORTEST <= 600, True)
+
+
+@test_beside
+def long_first_messages_at_a_low_rate():
+    """With --rate 1 a first message of 150 octets takes fifteen seconds. It is heard all the same;
+    one of which the rest doesn't come is closed after ten."""
+    sent = encode((SITE, 1), (TILL, 1), 0, 1, b"\x01", [(0x50, bytes(130))])
+    with start_station("--rate", 1) as day, day.connect() as peer, day.connect() as half:
+        begun = time.monotonic()
+        peer.sendall(sent)
+        half.sendall(sent[:20])
+        expect_closed_in_time({"half a message": half}, begun)
+        peer.settimeout(len(sent) / SHORTEST + LATE)
+        expect("an answer", len(receive_message(peer)) > 0, True)
+        took = time.monotonic() - begun
+        least = len(sent) / SHORTEST
+        expect(f"{took:.1f} seconds", least - 0.5 <= took <= least + LATE, True)
+        end(day, None)
+
+
+@test_beside
+def many_lines_hide_no_other():
+    """Sessions of many nodes end with one fault. Of its text ten lines are written in a second,
+    then how many more came; lines of other texts between them are written."""
+    with start_station("--rate", 0) as day, contextlib.ExitStack() as stack:
+        for n in range(3_000):
+            with day.connect() as peer:
+                peer.sendall(encode((SITE, 1), (9, n % 250), 0, 1, b"\x01") + b"\1")
+                peer.shutdown(socket.SHUT_WR)
+                receive_all(peer)
+            if n % 1_000 == 500:
+                with day.connect() as other:
+                    other.sendall(sign_on(1) + sign_on(2))
+                    receive_all(other)
+        day.process.stdin.close()
+        day.process.stdin = None
+        _, err = day.process.communicate(timeout=WAIT)
+    lines = err.decode().splitlines()
+    half = "fault 44: the octets end inside a message"
+    few = [line for line in lines if line.startswith("session of") and line.endswith(half)]
+    more = [line.split(" more in a second: ") for line in lines if "more in" in line]
+    others = lines.count("session of t1: fault 57: another originator")
+    expect("the other text", others, 3)
+    expect("texts that were too many", {text for _, text in more}, {half})
+    expect("in all", len(few) + sum(int(count) for count, _ in more), 3_000)
+    expect(f"{len(few)} lines, {len(more)} seconds", len(few) <= 10 * (len(more) + 1), True)
+
+
+FLOOD_RUNS, FLOOD_SECONDS, MOST_TIMES = 3, 6, 3
+BUSY = 20_000  # microseconds that a machine with other work may add; bench/flood measures without
+
+
+@test
+def a_flood_beside_a_day():
+    """32 tills and 64 dispensers at work, and beside them 200 connections that send as fast as they
+    can, 1,024 that say nothing and 1,000 connects a second. Dispensers come and go meanwhile, none
+    is kept out, and each figure of the report is right. The work's replies take less than three
+    times as long as without them, and what a busy machine may add: half of them and 99 of 100, by
+    the medians of three runs each."""
+    clients = compile_c(HERE, "bench/flood.c", "-O2", "-pthread")
+    site, runs = floods.write_flooded_site(HERE), {False: [], True: []}
+    for _ in range(FLOOD_RUNS):
+        for is_flooded, got in runs.items():
+            with start_station(site=site) as day:
+                got.append(floods.work(clients, day, FLOOD_SECONDS, is_flooded))
+                floods.expect_right(end(day), got[-1])
+    for what in ("median", "most"):
+        alone, flooded = (
+            statistics.median(getattr(figures, what) for figures in runs[which])
+            for which in (False, True)
+        )
+        times = f"{what}: {alone:.0f} and {flooded:.0f} microseconds"
+        expect(times, flooded < MOST_TIMES * alone + BUSY, True)
+    return 2 * FLOOD_RUNS
 
 
 # ---- whose till it is
@@ -532,6 +825,39 @@ def a_till_that_is_taken_over():
             leave(second)
         expect("signed off", is_signed_on(look, 1), False)
         end(day)
+
+
+@test
+def locks_of_a_till_that_is_taken_over():
+    """Till 1 is taken over, and its second session locks a transaction. The end of the first
+    session leaves it locked; another till can't clear it; the end of the second makes it
+    payable."""
+    with start_station() as day, day.connect() as first, day.connect() as other:
+        with day.connect() as pump:
+            expect_done(first, sign_on(1))
+            expect_done(other, sign_on(2))
+            ask(pump, say(1))
+            bring(other, pump, 1, (OPEN, RELEASE, LIFT, FLOW))
+            expect_done(pump, report(1, 1, HANG_UP, LITRES))
+            expect_done(first, command_sale(1, 1, 1, 1, LOCK))
+            with day.connect() as second:
+                expect_done(second, sign_off(1))
+                expect("till 1 left it", read_status(other, 2), PAYABLE)
+                expect_done(second, sign_on(1), command_sale(1, 1, 1, 1, LOCK))
+                leave(first)
+                for command in (LOCK, UNLOCK, CLEAR):
+                    refused = ask(other, command_sale(2, 1, 1, 1, command))
+                    wanted = (LOCKED_BY_OTHER, 1)
+                    expect("another till", (number(refused), detail(refused)), wanted)
+                leave(second)
+            expect("its holder has ended", read_status(other, 2), PAYABLE)
+            expect_done(other, command_sale(2, 1, 1, 1, LOCK), command_sale(2, 1, 1, 1, CLEAR))
+        end(day)
+
+
+def read_status(peer, till):
+    """The status of sale 1 of point 1."""
+    return ask(peer, read_sale(till, 1, 1, 1)).items[STATUS][0]
 
 
 def list_orders(most):
@@ -667,6 +993,10 @@ def the_house_till_is_nobodys():
         expect("rows", count_rows(end(day)), 2)
     for till in (2, 32):
         expect_refused_start(f"till {till}", ["--house", till], f"house {till}: no manager")
+    for word in ("0", "33", "256", "-1", "+1", "one", ""):
+        ended = run(PROGRAM, "station", KNOWN_SITE, "--port", "0", f"--house={word}")
+        wanted = (2, b"", "error: --house is a decimal number from 1 to 32\n")
+        expect(f"--house {word}", (ended.status, ended.out, ended.err), wanted)
 
 
 @test_beside
@@ -692,6 +1022,46 @@ def old_releases_end():
     begin = requests.index(sign_on(1, 0))
     expect("rows of the house till", requests[begin : begin + 3], house_rows(1, 1))
     expect("each once", requests.count(sign_on(1, 0)), 1)
+
+
+@test_beside
+def releases_made_anew():
+    """A release that is ended and made anew just before --release-age stands for so long again."""
+    with start_station("--house", 1, "--release-age", 10) as day, day.connect() as till:
+        expect_done(till, sign_on(2), command_point(2, 1, 1, OPEN))
+        expect_done(till, command_point(2, 1, 1, RELEASE))
+        time.sleep(9)
+        expect_done(till, command_point(2, 1, 1, TERMINATE), command_point(2, 1, 1, RELEASE))
+        anew = time.monotonic()
+        while time.monotonic() < anew + 9.5:
+            expect("it stands", state(till, 2, 1), AUTHORISED)
+            time.sleep(0.25)
+        wait_until("it ends", lambda: state(till, 2, 1) == IDLE)
+        took = time.monotonic() - anew
+        expect(f"after {took:.1f} seconds", took <= 10 + LATE, True)
+        end(day)
+
+
+@test_beside
+def releases_age_while_stopped():
+    """A release grows old while the station is stopped, and ends as soon as it goes on. A dispenser
+    that couldn't speak meanwhile isn't lost, and no session ends by that."""
+    words = ("--house", 1, "--release-age", 10, "--lost", 5, "--idle", 5)
+    with start_station(*words) as day, day.connect() as till, day.connect() as pump:
+        ask(pump, say(1))
+        expect_done(till, sign_on(2), command_point(2, 1, 1, OPEN))
+        expect_done(till, command_point(2, 1, 1, RELEASE))
+        leave(pump)
+        day.process.send_signal(signal.SIGSTOP)
+        time.sleep(11)
+        day.process.send_signal(signal.SIGCONT)
+        begun = time.monotonic()
+        wait_until("it ends", lambda: state(till, 2, 1) == IDLE)
+        took = time.monotonic() - begun
+        expect(f"after {took:.1f} seconds", took < 2, True)
+        with day.connect() as back:
+            expect("the dispenser isn't lost", detail(ask(back, say(1))), IDLE)
+        end(day)
 
 
 # ---- dispensers that are gone
@@ -809,15 +1179,26 @@ def dispensers_that_never_came():
 
 @test
 def never_lost():
-    """With --lost 0 no dispenser is said to be offline, however long it is gone."""
-    folder, site = HERE / "kept", make_site(2)
-    with start_station("--history", folder, "--lost", 0, site=site) as day:
-        with day.connect() as pump:
-            ask(pump, say(1))
-            leave(pump)
-        time.sleep(2)
-        end(day)
-    expect("rows", [len(offline_rows(folder, site, point)) for point in (1, 2)], [0, 0])
+    """With --lost 0 no dispenser is said to be offline, however long it is gone, whether it came or
+    not. With --lost 1 each is after so long."""
+    site = make_site(2)
+    folders = {seconds: HERE / f"kept_{seconds}" for seconds in (0, 1)}
+    with contextlib.ExitStack() as stack:
+        days = []
+        for seconds, folder in folders.items():
+            words = ("--history", folder, "--lost", seconds)
+            days.append(stack.enter_context(start_station(*words, site=site)))
+            with days[-1].connect() as pump:
+                ask(pump, say(1))
+                leave(pump)
+        time.sleep(1 + 2 * LATE)
+        for day in days:
+            end(day)
+    rows = {
+        seconds: [len(offline_rows(folder, site, point)) for point in (1, 2)]
+        for seconds, folder in folders.items()
+    }
+    expect("rows", rows, {0: [0, 0], 1: [1, 1]})
 
 
 @test_beside

@@ -34,9 +34,10 @@ from shared.page_day import connect, end_day, read_answer, write_request
 from shared.running import EXAMPLES, SCRIPTS, compile_c, run
 from shared.serving import list_addresses, wait_until
 from shared.station import (
-    CLEAR, CLOSE, CLOSE_SHIFT, FIVE_POINTS, FLOW, HANG_UP, KNOWN_SITE, LIFT, LOCK, OPEN, RELEASE,
-    SITE, TILL, WRITE, address_point, ask_site, command_point, command_sale, decode, encode,
-    is_accepted, read_point, receive_all, report, sign_on, write_report,
+    CLEAR, CLOSE, CLOSE_SHIFT, DISPENSER, FIVE_POINTS, FLOW, HANG_UP, KNOWN_SITE, LIFT, LOCK, OPEN,
+    RELEASE, REPORT, SITE, TILL, WRITE, address_point, ask_site, command_point, command_sale,
+    decode, encode, is_accepted, read_point, receive_all, receive_message, report, sign_on,
+    write_report,
 )  # fmt: skip
 from tests.built import PROGRAM
 from tests.suite import make_folder, test, test_beside
@@ -49,6 +50,7 @@ LOOKS = (SCRIPTS / "tests/page_looks.js").read_text()
 SILENCE = 6  # seconds, within which it says that the station doesn't answer
 PIPELINED = 10_000
 MOST_PEERS = 64
+ONLINE = 0x60  # what a dispenser says that is there
 MOST_IN_BOOK = 1_024  # rows
 # Seconds after which a silent peer is left: 10 to 12, and one for a machine that is busy.
 LEFT_AFTER = (10, 13)
@@ -121,9 +123,9 @@ def asks_nothing_of_others():
 
 
 # The members of site.json, and of what is in it.
-SITE_MEMBERS = ["connections", "opened", "points", "products", "rows", "seal", "shift", "tills",
-                "transactions"]  # fmt: skip
-POINT = ["fuelling", "holder", "nozzle", "number", "product", "state", "state name"]
+SITE_MEMBERS = ["connections", "opened", "points", "products", "rows", "seal", "sessions", "shift",
+                "tills", "transactions"]  # fmt: skip
+POINT = ["dispenser connected", "fuelling", "holder", "nozzle", "number", "product", "state", "state name"]
 FUELLING = ["cents", "ending", "millilitres", "mills", "prepaid", "preset cents",
             "preset millilitres", "test"]  # fmt: skip
 PRODUCT = ["adjusted", "cleared", "locked", "metered", "mills", "name", "number", "payable",
@@ -143,6 +145,7 @@ def members_of_the_site():
         expect("in order, without spaces", text, again)
         expect("members", list(site), SITE_MEMBERS)
         for name, members in (("points", POINT), ("products", PRODUCT),
+                              ("sessions", ["node", "quiet seconds", "since", "subnet"]),
                               ("tills", ["cents", "clears", "number", "signed on"]),
                               ("transactions", TRANSACTION)):  # fmt: skip
             expect(name, [one for one in site[name] if list(one) != members], [])
@@ -159,6 +162,68 @@ def members_of_the_site():
         for product in site["products"]:
             parts = ("running", "payable", "locked", "cleared", "adjusted")
             expect("parts", sum(product[part] for part in parts), product["metered"])
+
+
+def come_online(peer, point):
+    """The dispenser of a point says that it is there, and is answered."""
+    peer.sendall(encode((SITE, 1), (DISPENSER, point), REPORT, 0, address_point(point),
+                        [(ONLINE, b"")]))  # fmt: skip
+    receive_message(peer)
+
+
+def list_sessions(site):
+    return sorted((one["subnet"], one["node"]) for one in site["sessions"])
+
+
+def list_connected(site):
+    """The points whose dispensers are connected."""
+    return [point["number"] for point in site["points"] if point["dispenser connected"]]
+
+
+@test
+def who_is_connected():
+    """Each session stands there from its first message until its connection ends: whose it is, since
+    when, and how long ago something came. A point's dispenser is connected while it has one."""
+    with start_page() as page:
+        before = datetime.datetime.now(datetime.timezone.utc).isoformat(timespec="milliseconds")
+        with page.day.connect() as silent, page.day.connect() as first, page.day.connect() as second:
+            wait_until("they are there", lambda: page.site()["connections"] == 4)
+            expect("a till that has spoken", list_sessions(page.site()), [(TILL, 1)])
+            expect("no dispenser", list_connected(page.site()), [])
+            for pump in (first, second):
+                come_online(pump, 2)
+            come_online(silent, 65)  # no point has this number
+            site = page.site()
+            nodes = [(TILL, 1), *[(DISPENSER, 2)] * 2, (DISPENSER, 65)]
+            expect("whose they are", list_sessions(site), nodes)
+            expect("the dispenser of point 2", list_connected(site), [2])
+            after = datetime.datetime.now(datetime.timezone.utc).isoformat(timespec="milliseconds")
+            since = [one["since"] for one in site["sessions"] if one["node"] == 2]
+            bounds = [before[:23] <= time[:23] <= after[:23] for time in since]
+            expect("since when", (len(since), all(bounds)), (2, True))
+            time.sleep(2.2)
+            come_online(second, 2)
+            quiet = sorted(one["quiet seconds"] for one in page.site()["sessions"]
+                           if one["subnet"] == DISPENSER and one["node"] == 2)  # fmt: skip
+            expect("how long nothing came", (quiet[0], quiet[1] in (2, 3)), (0, True))
+            first.close()
+            wait_until("one is gone", lambda: len(page.site()["sessions"]) == 3)
+            expect("the other is there", list_connected(page.site()), [2])
+            second.close()
+            wait_until("both are gone", lambda: list_connected(page.site()) == [])
+
+
+@test
+def who_is_connected_at_a_door():
+    """A session of a door has its node from its beginning."""
+    doors = HERE / "doors"
+    (doors / "dispenser-03").mkdir(parents=True)
+    with start_page("--doors", str(doors), till=None) as page:
+        with socket.socket(socket.AF_UNIX) as pump:
+            pump.connect(str(doors / "dispenser-03" / "socket"))
+            wait_until("it is there", lambda: list_connected(page.site()) == [3])
+            expect("whose it is", list_sessions(page.site()), [(DISPENSER, 3)])
+        wait_until("it is gone", lambda: list_connected(page.site()) == [])
 
 
 @test
@@ -805,6 +870,32 @@ def a_silent_station():
         time.sleep(SILENCE)
         said = browser.evaluate("document.getElementById('state').textContent")
         expect("again", said, "0 unpaid")
+
+
+SESSIONS = "[...document.querySelectorAll('#sessions p')].map(line => line.textContent)"
+
+
+@test_beside
+@in_browser
+def who_is_connected_on_the_page():
+    """A tile says that its dispenser isn't connected, until it is; a click on the connections opens
+    the list of sessions."""
+    with start_page() as page, start_browser() as browser:
+        browser.open(page.url, *SCREEN)
+        expect_words(browser, 2, "closed", "no dispenser")
+        with page.day.connect() as pump:
+            come_online(pump, 2)
+            wait_until("the tile says no more", lambda: "no dispenser" not in read_tile(browser, 2))
+            expect_words(browser, 1, "no dispenser")
+            expect("closed", browser.evaluate("document.getElementById('who').open"), False)
+            browser.evaluate("document.getElementById('peers').click()")
+            lines = browser.evaluate(SESSIONS)
+            wanted = [rf"{name} since \d\d:\d\d, heard \d+ s ago" for name in ("till 1", "dispenser 2")]
+            matched = [bool(re.fullmatch(*pair)) for pair in zip(wanted, lines, strict=True)]
+            expect("sessions", (lines, matched), (lines, [True, True]))
+            high = browser.evaluate("document.getElementById('sessions').offsetHeight")
+            expect("they are seen", high > 0, True)
+        expect_words(browser, 2, "no dispenser")
 
 
 RECTANGLES = """[...document.querySelectorAll('article')].map(tile => {

@@ -106,15 +106,15 @@ def end(day, told=""):
 
 def end_counted(day, counts):
     """The report of a day whose standard input is closed, and that told these lines on standard
-    error, so often each. Of one text ten lines at most are written in a second; then how many more
-    came."""
+    error, each of another text, so often each. Of one text ten lines at most are written in a
+    second; then how many more came."""
     day.process.stdin.close()
     day.process.stdin = None
     out, err = day.process.communicate(timeout=WAIT)
-    got = collections.Counter()
+    got, names = collections.Counter(), {line.split(": ", 1)[-1]: line for line in counts}
     for line in err.decode().splitlines(keepends=True):
         more = re.fullmatch(r"(\d+) more in a second: (.*\n)", line)
-        got[more[2] if more else line] += int(more[1]) if more else 1
+        got[names.get(more[2], more[2]) if more else line] += int(more[1]) if more else 1
     expect("status and lines", (day.process.returncode, got - collections.Counter([UNKEPT])),
            (0, collections.Counter(counts)))  # fmt: skip
     return out.decode()
@@ -367,20 +367,22 @@ def faults():
 
 @test
 def an_octet_now_and_then():
-    """A hundred peers of whom an octet comes now and then."""
+    """A hundred peers of whom an octet comes now and then. They are few octets, since a first message
+    is to be whole within ten seconds."""
     with start_station() as day, contextlib.ExitStack() as stack:
         before = expect_fast(day)
         peers = [stack.enter_context(day.connect()) for _ in range(100)]
-        for octet in sign_on(1)[:9]:
+        for octet in sign_on(1)[:4]:
             for peer in peers:
                 peer.sendall(bytes([octet]))
-            expect_as_fast(day, before)
+            time.sleep(0.1)
+        expect_as_fast(day, before)
         for peer in peers:
             port = peer.getsockname()[1]
             peer.close()
             day.wait_until_left(port)
         half = "session of a peer that said nothing: fault 44: the octets end inside a message\n"
-        expect("report", end_counted(day, {half: 100}), write_report(10 * ROWS_OF_FAST, 0))
+        expect("report", end_counted(day, {half: 100}), write_report(2 * ROWS_OF_FAST, 0))
 
 
 @test
@@ -567,14 +569,15 @@ def read_told(day, wanted):
 
 @test
 def descriptors_spent():
-    """Where no descriptor is left, that is told once, those who are there are served, and who
-    waits is served once those before it have gone. A shortage after that is told again."""
+    """Where each descriptor is that of a session that has spoken, it is told once that no more are
+    accepted, those who are there are served, and who waits is served once those before it have
+    gone. A shortage after that is told again."""
     told = "cannot accept: Too many open files (os error 24); it is tried again each second\n"
     few = lambda: resource.setrlimit(resource.RLIMIT_NOFILE, (20, 20))
     with start_station(preexec_fn=few) as day, contextlib.ExitStack() as stack:
         first = stack.enter_context(day.connect())
         ask(first, sign_on(1), SIGNED_ON[1])
-        others = [stack.enter_context(day.connect()) for _ in range(30)]
+        others = [speak(stack.enter_context(day.connect()), n) for n in range(30)]
         expect("told", read_told(day, UNKEPT + told), UNKEPT + told)
         day.is_unkept = False  # that is read
         time.sleep(1.5)
@@ -582,12 +585,20 @@ def descriptors_spent():
         ask(first, read_point(1, 1, 2), replay(sign_on(1) + read_point(1, 1, 2))[16:])
         for peer in others[:-1]:
             peer.close()
-        ask(others[-1], sign_on(2), SIGNED_ON[2])
-        more = [stack.enter_context(day.connect()) for _ in range(30)]
+        receive_message(others[-1])
+        more = [speak(stack.enter_context(day.connect()), n) for n in range(30)]
         expect("told again", os.read(day.process.stderr.fileno(), 4_096).decode(), told)
         for peer in more:
             peer.close()
-        expect("report", end(day), write_report(4, 0))
+        expect("report", end(day), write_report(2, 0))
+
+
+def speak(peer, number):
+    """A connection that has sent a request of a till from 3 on, and has its answer if it comes at
+    once."""
+    peer.sendall(read_point(3 + number % 30, 1, 1))
+    select.select([peer], [], [], SLOW)
+    return peer
 
 
 @test
@@ -858,9 +869,10 @@ def look_at_rest(day, looks):
 
 
 def expect_few_fast(day):
-    """Each of a few replies to another till comes within a moment."""
+    """Each of a few replies to another till comes within a moment, once so much may be heard."""
     with day.connect() as peer:
         ask(peer, sign_on(31), SIGNED_ON[31])
+        time.sleep(0.5)
         for _ in range(10):
             begun = time.monotonic()
             peer.sendall(read_point(31, 1, 2))
