@@ -1,6 +1,8 @@
 //! One call of a connection.
 
-ghost use Rattle.connection_calls.specs.Stops.{IsStop};
+ghost use Rattle.std.specs.Prelude.{◌≡◌};
+ghost use Rattle.std.specs.IoError.{error_kind};
+ghost use Rattle.connection_calls.specs.Stops.{IsStop, call_of};
 
 use mio::Interest;
 use std::io::{self, ErrorKind};
@@ -23,7 +25,8 @@ pub enum Call {
 impl Call {
     /// What became of a call that passed no octet, and answered this error.
     pub fn of_error(error: &io::Error) -> Call
-        ensures { IsStop result }
+        ensures kind { result ≡ call_of (error_kind error.now) }
+        ensures stops { IsStop result }
     {
         match error.kind() {
             ErrorKind::WouldBlock => Call::Waits,

@@ -156,13 +156,30 @@ fn make_for_good<R: Files<File = File> + AllocGlobal>(
             Ok(()) => Ok(()),
             Err(error) => Err(fault_of_write(&error)),
         },
-        Err(error) if error.kind() == ErrorKind::AlreadyExists => {
-            // An earlier start may have ended before it did this.
-            let _ = flush_folder(rt, above.as_str());
-            Ok(())
-        }
+        // An earlier start may have ended before it did this.
+        Err(error) if error.kind() == ErrorKind::AlreadyExists => flush_again(rt, above.as_str()),
         Err(error) => Err(fault_of(&error)),
     }
+}
+
+/// Has on the disk which folders this one has, unless it can't be looked at, or has no flush: then
+/// somebody else has made what is in it.
+fn flush_again<R: Files<File = File>>(rt: &R, above: &str) -> Result<(), FileFault> {
+    match flush_folder(rt, above) {
+        Err(error) if !is_anothers(error.kind()) => Err(fault_of_write(&error)),
+        _ => Ok(()),
+    }
+}
+
+/// Does the error say that this user can't flush a folder?
+fn is_anothers(kind: ErrorKind) -> bool {
+    matches!(
+        kind,
+        ErrorKind::PermissionDenied
+            | ErrorKind::InvalidInput
+            | ErrorKind::ReadOnlyFilesystem
+            | ErrorKind::Unsupported
+    )
 }
 
 /// The path of the chapter of this number.

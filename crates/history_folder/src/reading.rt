@@ -14,7 +14,7 @@ use crate::fault::fault_of;
 use crate::listing::count_chapters;
 use crate::names::{chapter_name, path_in};
 use crate::site::read_folder_site;
-use crate::whole_file::{flush_folder, read_flushed_file, read_whole_file};
+use crate::whole_file::{flush_folder, read_flushed_file};
 use chapters::{HistoryReader, ReadHistory, site_name};
 use program_io::exit_no_memory;
 use site_base::{NoMemory, SiteConfig};
@@ -95,8 +95,9 @@ fn read_chapters<R: Files + Eprint + AllocGlobal>(
     Ok(())
 }
 
-/// The octets of the chapter of this number, of so many, or how the program ends. Those of the last
-/// one are on the disk then, where its name is that of a file that has them.
+/// The octets of the chapter of this number, of so many, or how the program ends. They are on the
+/// disk then, also those of a closed chapter that a backup has just brought back; once the last one
+/// is read, so are the names of all.
 pub(crate) fn read_chapter<R: Files + Eprint + AllocGlobal>(
     rt: &R,
     folder: &str,
@@ -108,7 +109,7 @@ pub(crate) fn read_chapter<R: Files + Eprint + AllocGlobal>(
 {
     match chapter_path(rt.alloc(), folder, number) {
         Ok(path) if number == count => read_last_chapter(rt, folder, path.as_str()),
-        Ok(path) => read_whole_file(rt, path.as_str()),
+        Ok(path) => read_flushed_file(rt, path.as_str()),
         Err(_) => Err(exit_no_memory(rt)),
     }
 }

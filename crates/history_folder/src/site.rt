@@ -5,7 +5,7 @@ ghost use Rattle.program_io.specs.Statuses.{IsFailed};
 ghost use Rattle.site_file.specs.SiteFile.{config_of};
 
 use crate::names::{SITE_FILE, path_in};
-use crate::whole_file::read_whole_file;
+use crate::whole_file::read_flushed_file;
 use program_io::{FAULT, exit_no_memory, exit_with};
 use site_base::SiteConfig;
 use site_file::{ConfigFault, read_config};
@@ -13,7 +13,7 @@ use std::process::ExitCode;
 use std::rt::Files;
 
 /// The site of a folder, with the octets of its site file, or how the program ends: the file can't
-/// be read, or has a fault.
+/// be read, or has a fault. They are on the disk then.
 pub fn read_folder_site<R: Files + Eprint + AllocGlobal>(
     rt: &R,
     folder: &str,
@@ -25,7 +25,7 @@ pub fn read_folder_site<R: Files + Eprint + AllocGlobal>(
         Ok(path) => path,
         Err(_) => return Err(exit_no_memory(rt)),
     };
-    let octets = read_whole_file(rt, path.as_str())?;
+    let octets = read_flushed_file(rt, path.as_str())?;
     let config = site_in_folder(rt, &octets)?;
     Ok((config, octets))
 }

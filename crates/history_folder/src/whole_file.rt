@@ -11,10 +11,7 @@ use std::rt::Files;
 
 /// The octets of the file of this name, or how the program ends: it can't be read, or is a pipe, a
 /// device or another thing that may have no end.
-pub fn read_whole_file<R: Files + Eprint + AllocGlobal>(
-    rt: &R,
-    name: &str,
-) -> Result<Vec<u8>, ExitCode>
+fn read_whole_file<R: Files + Eprint + AllocGlobal>(rt: &R, name: &str) -> Result<Vec<u8>, ExitCode>
     ensures failed { IfErr result IsFailed }
 {
     match fs::metadata(rt, name) {

@@ -1,12 +1,13 @@
 //! The connections of all peers, and the station that they speak with.
 
-ghost use Rattle.std.specs.Prelude.{◌≡◌, length, IfOk, IfSome, OnOk, is_some, true};
+ghost use Rattle.std.specs.Prelude.{◌≡◌, false, length, IfOk, IfSome, OnOk, is_some, true};
 ghost use Rattle.site_book.specs.Unpaid.{unpaid_sales};
 ghost use Rattle.station.specs.declared.sizes.TheConstants.{HEARD_OCTETS};
 ghost use Rattle.station.specs.Moves.{without_peer};
 ghost use Rattle.station.specs.Reads.{HasNoPeer};
-ghost use Rattle.journal.specs.Stored.{is_all_stored, since_of};
-ghost use Rattle.peer_connections.specs.Reaches.{Reaches};
+ghost use Rattle.journal.specs.Stored.{JournalGoesOn, is_all_stored, since_of, with_station};
+ghost use Rattle.peer_connections.specs.Allowed.{IsClosing, IsHearing, IsSending, lasts_at};
+ghost use Rattle.peer_connections.specs.Reaches.{Reaches, ReachesBy};
 
 use crate::change_watch::ChangeWatch;
 use crate::due_list::DueList;
@@ -147,7 +148,7 @@ impl<D: Disk> Connections<D> {
     /// Stores each row that isn't stored yet: its peers may be told then.
     #[tactic(auto, using(crate::proofs::Reaching::moved))]
     fn store(&mut self) -> Result<(), DiskFault>
-        ensures moves { Reaches self.old.stored.station self.new.stored.station }
+        ensures journal { JournalGoesOn self.old.stored.journal self.new.stored.journal }
         ensures station { self.new.stored.station ≡ self.old.stored.station }
         ensures stored { OnOk result (is_all_stored self.new.stored ≡ true) }
     {
@@ -157,7 +158,7 @@ impl<D: Disk> Connections<D> {
     /// Stores each row that isn't stored yet. Then the history's chapter ends, if it is over.
     #[tactic(auto, using(crate::proofs::Reaching::moved))]
     fn store_and_end<E: Eprint>(&mut self, rt: &E) -> Result<(), DiskFault>
-        ensures moves { Reaches self.old.stored.station self.new.stored.station }
+        ensures journal { JournalGoesOn self.old.stored.journal self.new.stored.journal }
         ensures station { self.new.stored.station ≡ self.old.stored.station }
         ensures stored { OnOk result (is_all_stored self.new.stored ≡ true) }
     {
@@ -170,6 +171,7 @@ impl<D: Disk> Connections<D> {
     fn end_chapter<E: Eprint>(&mut self, rt: &E) -> Result<(), DiskFault>
         requires { is_all_stored self.old.stored ≡ true }
         ensures station { self.new.stored.station ≡ self.old.stored.station }
+        ensures journal { JournalGoesOn self.old.stored.journal self.new.stored.journal }
         ensures stored { is_all_stored self.new.stored ≡ true }
     {
         match self.stored.end_chapter_if_over()? {
@@ -191,7 +193,7 @@ impl<D: Disk> Connections<D> {
     /// the last time stands for those before it.
     #[tactic(auto, using(crate::proofs::Reaching::moved))]
     pub fn begin_round<E: Eprint>(&mut self, rt: &E, clock: Option<Stamp>, now: Instant)
-        ensures moves { Reaches self.old.stored.station self.new.stored.station }
+        ensures journal { JournalGoesOn self.old.stored.journal self.new.stored.journal }
         ensures station { self.new.stored.station ≡ self.old.stored.station }
         ensures stored { is_all_stored self.new.stored ≡ is_all_stored self.old.stored }
         ensures clock { IfSome self.new.stored.journal (λ j. j.clock ≡ clock) }
@@ -225,7 +227,7 @@ impl<D: Disk> Connections<D> {
     /// isn't read from.
     #[tactic(auto, using(crate::proofs::Reaching::moved))]
     pub fn hear(&mut self, key: usize, to_wait: bool, now: Instant) -> Result<(), DiskFault>
-        ensures { Reaches self.old.stored.station self.new.stored.station }
+        ensures { ReachesBy (IsHearing key) self.old.stored self.new.stored }
     {
         if let Some(Some(link)) = self.links.get_mut(key) {
             if link.closing_since.is_some() {
@@ -357,7 +359,7 @@ impl<D: Disk> Connections<D> {
         rt: &E,
         now: Instant,
     ) -> Result<(), DiskFault>
-        ensures moves { Reaches self.old.stored.station self.new.stored.station }
+        ensures moves { Reaches self.old.stored self.new.stored }
         ensures stored { OnOk result (is_all_stored self.new.stored ≡ true) }
     {
         self.store()?;
@@ -369,7 +371,7 @@ impl<D: Disk> Connections<D> {
     /// Whoever is due is sent what it may be told, and a session that has ended is closed.
     #[tactic(auto, using(crate::proofs::Reaching::moved))]
     fn send_each<E: Eprint>(&mut self, registry: &Registry, rt: &E, now: Instant)
-        ensures { Reaches self.old.stored.station self.new.stored.station }
+        ensures { Reaches self.old.stored self.new.stored }
     {
         for at in 0..self.due.len() {
             if let Some(key) = self.due.get(at) {
@@ -382,7 +384,7 @@ impl<D: Disk> Connections<D> {
     /// A peer is sent what it is owed, and its connection follows its session.
     #[tactic(auto, using(crate::proofs::Reaching::moved))]
     fn send_owed<E: Eprint>(&mut self, registry: &Registry, rt: &E, key: usize, now: Instant)
-        ensures { Reaches self.old.stored.station self.new.stored.station }
+        ensures { ReachesBy (IsClosing key) self.old.stored self.new.stored }
     {
         let Some(Some(link)) = self.links.get_mut(key) else {
             return;
@@ -399,9 +401,9 @@ impl<D: Disk> Connections<D> {
     }
 
     /// A peer's connection closes, if its session has ended.
-    #[tactic(auto, using(crate::proofs::Reaching::moved))]
+    #[tactic(auto, using(crate::proofs::Reaching::closed))]
     fn follow_session<E: Eprint>(&mut self, rt: &E, key: usize, now: Instant)
-        ensures { Reaches self.old.stored.station self.new.stored.station }
+        ensures { ReachesBy (IsClosing key) self.old.stored self.new.stored }
     {
         if let Some(end) = self.stored.end(key) {
             self.begin_to_close(rt, key, now);
@@ -460,9 +462,10 @@ impl<D: Disk> Connections<D> {
     /// A peer whose session ended so has what it is owed: it is told that nothing more will come,
     /// and once it sends no more its connection is closed. That of one that doesn't take what it is
     /// owed is closed at once.
-    #[tactic(auto, using(crate::proofs::Reaching::moved))]
+    #[tactic(auto, using(crate::proofs::Reaching::closed))]
     fn end_connection(&mut self, key: usize, end: PeerEnd)
-        ensures { Reaches self.old.stored.station self.new.stored.station }
+        requires { lasts_at self.old.stored.station key ≡ false }
+        ensures { ReachesBy (IsClosing key) self.old.stored self.new.stored }
     {
         if end == PeerEnd::Behind {
             self.remove(key);
@@ -481,7 +484,8 @@ impl<D: Disk> Connections<D> {
 
     /// The connection of a peer is closed, and the peer leaves.
     pub(crate) fn remove(&mut self, key: usize)
-        ensures { self.new.stored.station ≡ without_peer key self.old.stored.station }
+        ensures { self.new.stored
+            ≡ with_station (without_peer key self.old.stored.station) self.old.stored }
     {
         self.stored.leave(key);
         if let Some(slot) = self.links.get_mut(key) {
@@ -500,7 +504,7 @@ impl<D: Disk> Connections<D> {
         idle: Option<u64>,
         now: Instant,
     ) -> Result<(), DiskFault>
-        ensures moves { Reaches self.old.stored.station self.new.stored.station }
+        ensures moves { Reaches self.old.stored self.new.stored }
         ensures stored { OnOk result (is_all_stored self.new.stored ≡ true) }
     {
         self.may_wait = false;
@@ -516,7 +520,7 @@ impl<D: Disk> Connections<D> {
     /// chapter ends, if it is over, and its last row is sealed.
     #[tactic(auto, using(crate::proofs::Reaching::moved))]
     pub fn end_all<E: Eprint>(&mut self, rt: &E, now: Instant) -> Result<(), DiskFault>
-        ensures moves { Reaches self.old.stored.station self.new.stored.station }
+        ensures moves { Reaches self.old.stored self.new.stored }
         ensures left { HasNoPeer self.new.stored.station }
         ensures stored { OnOk result (is_all_stored self.new.stored ≡ true) }
         ensures sealed { OnOk result
@@ -534,7 +538,7 @@ impl<D: Disk> Connections<D> {
     /// Each session ends.
     #[tactic(auto, using(crate::proofs::Reaching::moved))]
     fn finish_all(&mut self)
-        ensures { Reaches self.old.stored.station self.new.stored.station }
+        ensures { Reaches self.old.stored self.new.stored }
     {
         for key in 0..PEERS {
             self.stored.finish(key);
@@ -544,7 +548,7 @@ impl<D: Disk> Connections<D> {
     /// Each peer is sent what it may be told.
     #[tactic(auto, using(crate::proofs::Reaching::moved))]
     fn send_last_to_all(&mut self, now: Instant)
-        ensures { Reaches self.old.stored.station self.new.stored.station }
+        ensures { Reaches self.old.stored self.new.stored }
     {
         for key in 0..PEERS {
             self.send_last(key, now);
@@ -554,7 +558,7 @@ impl<D: Disk> Connections<D> {
     /// Each connection is closed, and its peer leaves.
     #[tactic(auto, using(crate::proofs::Reaching::moved))]
     fn remove_all(&mut self)
-        ensures moves { Reaches self.old.stored.station self.new.stored.station }
+        ensures moves { Reaches self.old.stored self.new.stored }
         ensures left { HasNoPeer self.new.stored.station }
     {
         for key in 0..PEERS {
@@ -568,7 +572,7 @@ impl<D: Disk> Connections<D> {
     /// read, since a connection that is closed before that loses what was sent last.
     #[tactic(auto, using(crate::proofs::Reaching::moved))]
     fn send_last(&mut self, key: usize, now: Instant)
-        ensures { Reaches self.old.stored.station self.new.stored.station }
+        ensures { ReachesBy (IsSending key) self.old.stored self.new.stored }
     {
         if let Some(Some(link)) = self.links.get_mut(key) {
             link.send(&mut self.stored, key, now);

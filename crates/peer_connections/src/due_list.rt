@@ -52,7 +52,18 @@ impl DueList {
 
     /// Nobody is due any more.
     pub(crate) fn clear(&mut self) {
+        for place in 0..self.count {
+            self.forget(place);
+        }
         self.count = 0;
-        self.is_due.fill(false);
+    }
+
+    /// The one at this place is due no more.
+    fn forget(&mut self, place: usize) {
+        if let Some(key) = self.keys.get(place) {
+            if let Some(is_due) = self.is_due.get_mut(*key) {
+                *is_due = false;
+            }
+        }
     }
 }

@@ -1,6 +1,7 @@
 //! Peers that were waited for too long.
 
-ghost use Rattle.peer_connections.specs.Reaches.{Reaches};
+ghost use Rattle.peer_connections.specs.Allowed.{IsLate};
+ghost use Rattle.peer_connections.specs.Reaches.{ReachesBy};
 
 use crate::connections::Connections;
 use crate::naming::PeerName;
@@ -10,7 +11,7 @@ use std::time::{Duration, Instant};
 
 impl<D: Disk> Connections<D> {
     /// The session of a peer ends, or its connection is closed, if it was waited for too long.
-    #[tactic(auto, using(crate::proofs::Reaching::moved))]
+    #[tactic(auto, using(crate::proofs::Reaching::left_late))]
     pub(crate) fn end_if_late<E: Eprint>(
         &mut self,
         rt: &E,
@@ -18,7 +19,7 @@ impl<D: Disk> Connections<D> {
         idle: Option<u64>,
         now: Instant,
     )
-        ensures { Reaches self.old.stored.station self.new.stored.station }
+        ensures { ReachesBy (IsLate key) self.old.stored self.new.stored }
     {
         match self.find_timeout(key, idle, now) {
             Timeout::NotYet => {}
@@ -30,9 +31,9 @@ impl<D: Disk> Connections<D> {
     }
 
     /// The session of a peer ends, of which nothing came for so many seconds, or that took nothing.
-    #[tactic(auto, using(crate::proofs::Reaching::moved))]
+    #[tactic(auto, using(crate::proofs::Reaching::left_late))]
     fn end_late<E: Eprint>(&mut self, rt: &E, key: usize, what: &str, seconds: u64, now: Instant)
-        ensures { Reaches self.old.stored.station self.new.stored.station }
+        ensures { ReachesBy (IsLate key) self.old.stored self.new.stored }
     {
         let name = PeerName {
             node: self.stored.node(key),

@@ -2,7 +2,8 @@
 
 ghost use Rattle.std.specs.Prelude.{◌≡◌, length};
 ghost use Rattle.station.specs.declared.sizes.TheConstants.{HEARD_OCTETS};
-ghost use Rattle.peer_connections.specs.Reaches.{Reaches};
+ghost use Rattle.peer_connections.specs.Allowed.{IsHearing, IsSending};
+ghost use Rattle.peer_connections.specs.Reaches.{ReachesBy};
 
 use crate::allowance::Allowance;
 use crate::calls::{read_ignored, read_with_room, write_once};
@@ -96,7 +97,7 @@ impl Link {
         now: Instant,
     ) -> Result<(), DiskFault>
         requires { length piece.old ≡ HEARD_OCTETS }
-        ensures { Reaches stored.old.station stored.new.station }
+        ensures { ReachesBy (IsHearing key) stored.old stored.new }
     {
         self.is_unread = true;
         for _ in 0..CALLS_A_TURN {
@@ -139,7 +140,7 @@ impl Link {
     /// Sends what the peer may be told, as far as its connection takes it for now.
     #[tactic(auto, using(crate::proofs::Reaching::moved))]
     pub(crate) fn send<D: Disk>(&mut self, stored: &mut StoredStation<D>, key: usize, now: Instant)
-        ensures { Reaches stored.old.station stored.new.station }
+        ensures { ReachesBy (IsSending key) stored.old stored.new }
     {
         for _ in 0..CALLS_A_TURN {
             if stored.told_octets(key).is_empty() {

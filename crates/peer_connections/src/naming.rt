@@ -1,5 +1,6 @@
 //! How a session's end is told.
 
+use crate::nodes::is_of_a_site;
 use station::PeerEnd;
 use std::fmt;
 
@@ -43,8 +44,8 @@ impl fmt::Display for PeerName {
         match self.node {
             None => write!(f, "a peer that said nothing"),
             Some(node) => match (node[0], node[1]) {
-                (2, till) => write!(f, "t{till}"),
-                (3, dispenser) => write!(f, "d{dispenser}"),
+                (2, till) if is_of_a_site(node) => write!(f, "t{till}"),
+                (3, dispenser) if is_of_a_site(node) => write!(f, "d{dispenser}"),
                 (subnet, node) => write!(f, "node {subnet} {node}"),
             },
         }

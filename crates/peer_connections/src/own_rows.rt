@@ -1,7 +1,8 @@
 //! The rows of the station's own: of dispensers that are gone, and of releases that nobody used.
 
 ghost use Rattle.std.specs.Prelude.{◌≡◌};
-ghost use Rattle.peer_connections.specs.Reaches.{Reaches};
+ghost use Rattle.peer_connections.specs.Allowed.{IsOwn};
+ghost use Rattle.peer_connections.specs.Reaches.{ReachesBy};
 
 use crate::connections::Connections;
 use crate::nodes::point_of;
@@ -32,9 +33,9 @@ impl<D: Disk> Connections<D> {
 
     /// Dispensers that are gone for too long are lost, and releases that stand for too long end.
     /// Their rows are looked at, and their notices are due.
-    #[tactic(auto, using(crate::proofs::Reaching::moved))]
+    #[tactic(auto, using(crate::proofs::Reaching::done_alone))]
     pub(crate) fn keep_up(&mut self, now: Instant) -> Result<(), DiskFault>
-        ensures { Reaches self.old.stored.station self.new.stored.station }
+        ensures { ReachesBy IsOwn self.old.stored self.new.stored }
     {
         if !self.keeps_up() {
             return Ok(());
@@ -48,9 +49,9 @@ impl<D: Disk> Connections<D> {
     }
 
     /// At a start no release of the day before stands: each ends, if there is a house till.
-    #[tactic(auto, using(crate::proofs::Reaching::moved))]
+    #[tactic(auto, using(crate::proofs::Reaching::done_alone))]
     pub fn end_releases(&mut self) -> Result<(), DiskFault>
-        ensures { Reaches self.old.stored.station self.new.stored.station }
+        ensures { ReachesBy IsOwn self.old.stored self.new.stored }
     {
         self.make_own_room()?;
         for number in 1..=POINTS {
@@ -60,9 +61,9 @@ impl<D: Disk> Connections<D> {
     }
 
     /// The release of the point of this number ends, if it stands.
-    #[tactic(auto, using(crate::proofs::Reaching::moved))]
+    #[tactic(auto, using(crate::proofs::Reaching::done_alone))]
     fn end_release_of(&mut self, number: u8)
-        ensures { Reaches self.old.stored.station self.new.stored.station }
+        ensures { ReachesBy IsOwn self.old.stored self.new.stored }
     {
         if let Some(p) = FpNo::new(number) {
             self.end_release(p);
@@ -71,18 +72,18 @@ impl<D: Disk> Connections<D> {
 
     /// Makes room for the rows of the station's own. The rows so far are looked at before they are
     /// forgotten.
-    #[tactic(auto, using(crate::proofs::Reaching::moved))]
+    #[tactic(auto, using(crate::proofs::Reaching::done_alone))]
     fn make_own_room(&mut self) -> Result<(), DiskFault>
-        ensures { Reaches self.old.stored.station self.new.stored.station }
+        ensures { ReachesBy IsOwn self.old.stored self.new.stored }
     {
         self.changes.look(self.stored.book());
         self.stored.make_room()
     }
 
     /// Is the dispenser of the point of this number lost, and has its release stood for too long?
-    #[tactic(auto, using(crate::proofs::Reaching::moved))]
+    #[tactic(auto, using(crate::proofs::Reaching::done_alone))]
     fn look_at_point(&mut self, number: u8, now: Instant)
-        ensures { Reaches self.old.stored.station self.new.stored.station }
+        ensures { ReachesBy IsOwn self.old.stored self.new.stored }
     {
         let Some(p) = FpNo::new(number) else {
             return;
@@ -97,9 +98,9 @@ impl<D: Disk> Connections<D> {
 
     /// Has the release of a point, if there is one, stood for too long? Other than for peers, the
     /// time counts in which the station was stopped.
-    #[tactic(auto, using(crate::proofs::Reaching::moved))]
+    #[tactic(auto, using(crate::proofs::Reaching::done_alone))]
     fn look_at_release(&mut self, p: FpNo, is_released: bool, now: Instant)
-        ensures { Reaches self.old.stored.station self.new.stored.station }
+        ensures { ReachesBy IsOwn self.old.stored self.new.stored }
     {
         let at = self.round_at.unwrap_or(now);
         if self.upkeep.is_stale(p, is_released, at) {
@@ -108,9 +109,9 @@ impl<D: Disk> Connections<D> {
     }
 
     /// Is the dispenser of a point lost? Where no row of that can be made, it is tried again.
-    #[tactic(auto, using(crate::proofs::Reaching::moved))]
+    #[tactic(auto, using(crate::proofs::Reaching::done_alone))]
     fn look_at_dispenser(&mut self, p: FpNo, now: Instant)
-        ensures { Reaches self.old.stored.station self.new.stored.station }
+        ensures { ReachesBy IsOwn self.old.stored self.new.stored }
     {
         if !self.upkeep.looks_for_lost() {
             return;
@@ -123,14 +124,14 @@ impl<D: Disk> Connections<D> {
 
     /// The house till ends the release of a point.
     fn end_release(&mut self, p: FpNo)
-        ensures { Reaches self.old.stored.station self.new.stored.station }
+        ensures { ReachesBy IsOwn self.old.stored self.new.stored }
     {
         self.stored.end_release(p);
     }
 
     /// The dispenser of a point is lost: was a row of that made?
     fn lose_dispenser(&mut self, p: FpNo) -> bool
-        ensures { Reaches self.old.stored.station self.new.stored.station }
+        ensures { ReachesBy IsOwn self.old.stored self.new.stored }
     {
         let rows = self.stored.book().len();
         self.stored.lose_dispenser(p);

@@ -1,7 +1,9 @@
 //! The places of peers: who comes gets one, and where all are taken, one that waits without a whole
 //! message leaves.
 
-ghost use Rattle.peer_connections.specs.Reaches.{Reaches};
+ghost use Rattle.std.specs.Prelude.{◌≡◌, IfOk, IfSome, None, Some, false, is_some, true};
+ghost use Rattle.peer_connections.specs.Allowed.{IsDismissal, IsWelcome, is_served_at};
+ghost use Rattle.peer_connections.specs.Reaches.{ReachesBy};
 
 use crate::connections::Connections;
 use crate::link::Link;
@@ -17,7 +19,7 @@ use std::time::Instant;
 impl<D: Disk> Connections<D> {
     /// A peer has come over TCP. Where it gets no place, or memory is wanting, its connection is
     /// closed.
-    #[tactic(auto, using(crate::proofs::Reaching::moved))]
+    #[tactic(auto, using(crate::proofs::Reaching::welcomed))]
     pub fn welcome<E: Eprint>(
         &mut self,
         registry: &Registry,
@@ -25,7 +27,7 @@ impl<D: Disk> Connections<D> {
         stream: TcpStream,
         now: Instant,
     )
-        ensures { Reaches self.old.stored.station self.new.stored.station }
+        ensures { ReachesBy (IsWelcome None) self.old.stored self.new.stored }
     {
         if let Some(key) = self.find_place_or_say(rt, None) {
             self.link(registry, key, PeerStream::Tcp(stream), now);
@@ -33,7 +35,7 @@ impl<D: Disk> Connections<D> {
     }
 
     /// A peer has come through the door of this place among the doors, as `welcome` says.
-    #[tactic(auto, using(crate::proofs::Reaching::moved))]
+    #[tactic(auto, using(crate::proofs::Reaching::welcomed))]
     pub fn welcome_at<E: Eprint>(
         &mut self,
         registry: &Registry,
@@ -42,7 +44,7 @@ impl<D: Disk> Connections<D> {
         stream: UnixStream,
         now: Instant,
     )
-        ensures { Reaches self.old.stored.station self.new.stored.station }
+        ensures { ReachesBy (IsWelcome (Some door)) self.old.stored self.new.stored }
     {
         if let Some(key) = self.find_place_or_say(rt, Some(door)) {
             self.link(registry, key, PeerStream::Unix(stream), now);
@@ -50,9 +52,11 @@ impl<D: Disk> Connections<D> {
     }
 
     /// A place for a peer that has come at this door, or over TCP. That there is none is said.
-    #[tactic(auto, using(crate::proofs::Reaching::moved))]
+    #[tactic(auto, using(crate::proofs::Reaching::welcomed))]
     fn find_place_or_say<E: Eprint>(&mut self, rt: &E, door: Option<usize>) -> Option<usize>
-        ensures { Reaches self.old.stored.station self.new.stored.station }
+        ensures moves { ReachesBy (IsWelcome door) self.old.stored self.new.stored }
+        ensures unserved { IfSome result (λ key.
+            is_served_at self.new.stored.station key ≡ false) }
     {
         match self.find_place(door) {
             Ok(Some(key)) => Some(key),
@@ -68,9 +72,10 @@ impl<D: Disk> Connections<D> {
     }
 
     /// The peer that has come to this place has this connection.
-    #[tactic(auto, using(crate::proofs::Reaching::moved))]
+    #[tactic(auto, using(crate::proofs::Reaching::welcomed))]
     fn link(&mut self, registry: &Registry, key: usize, stream: PeerStream, now: Instant)
-        ensures { Reaches self.old.stored.station self.new.stored.station }
+        requires { is_served_at self.old.stored.station key ≡ false }
+        ensures { ReachesBy IsDismissal self.old.stored self.new.stored }
     {
         let mut stream = stream;
         stream.send_at_once();
@@ -86,35 +91,37 @@ impl<D: Disk> Connections<D> {
 
     /// A place for a peer that has come at this door, or over TCP. Where all of these are taken,
     /// the peer of one leaves that has waited longest without a whole message: so those that say
-    /// nothing keep nobody out.
-    #[tactic(auto, using(crate::proofs::Reaching::moved))]
+    /// nothing keep nobody out. Where memory is wanting at a door, such a peer over TCP leaves: so
+    /// those keep nobody from a door.
+    #[tactic(auto, using(crate::proofs::Reaching::welcomed))]
     fn find_place(&mut self, door: Option<usize>) -> Result<Option<usize>, NoMemory>
-        ensures { Reaches self.old.stored.station self.new.stored.station }
+        ensures moves { ReachesBy (IsWelcome door) self.old.stored self.new.stored }
+        ensures unserved { IfOk result (λ found. IfSome found (λ key.
+            is_served_at self.new.stored.station key ≡ false)) }
     {
-        if let Some(key) = self.arrive(door)? {
-            return Ok(Some(key));
-        }
-        if self.dismiss_longest_waiting(door) {
-            self.arrive(door)
-        } else {
-            Ok(None)
-        }
+        let found = self.arrive(door);
+        let has_left = match found {
+            Ok(None) => self.dismiss_longest_waiting(door),
+            Err(NoMemory) if door.is_some() => self.make_way(),
+            _ => false,
+        };
+        if has_left { self.arrive(door) } else { found }
     }
 
     /// A connection can't be accepted, since no descriptor is left, say: the peer over TCP leaves
     /// that has waited longest without a whole message. False where none waits so.
-    #[tactic(auto, using(crate::proofs::Reaching::moved))]
+    #[tactic(auto, using(crate::proofs::Reaching::welcomed))]
     pub fn make_way(&mut self) -> bool
-        ensures { Reaches self.old.stored.station self.new.stored.station }
+        ensures { ReachesBy IsDismissal self.old.stored self.new.stored }
     {
         self.dismiss_longest_waiting(None)
     }
 
     /// The peer leaves that has waited longest without a whole message, of those of this door, or
     /// of TCP. False where none waits so.
-    #[tactic(auto, using(crate::proofs::Reaching::moved))]
+    #[tactic(auto, using(crate::proofs::Reaching::welcomed))]
     fn dismiss_longest_waiting(&mut self, door: Option<usize>) -> bool
-        ensures { Reaches self.old.stored.station self.new.stored.station }
+        ensures { ReachesBy IsDismissal self.old.stored self.new.stored }
     {
         match self.find_longest_waiting(door) {
             Some(key) => {
@@ -126,9 +133,11 @@ impl<D: Disk> Connections<D> {
     }
 
     /// A peer arrives at this door, or over TCP.
-    #[tactic(auto, using(crate::proofs::Reaching::moved))]
+    #[tactic(auto, using(crate::proofs::Reaching::welcomed))]
     fn arrive(&mut self, door: Option<usize>) -> Result<Option<usize>, NoMemory>
-        ensures { Reaches self.old.stored.station self.new.stored.station }
+        ensures moves { ReachesBy (IsWelcome door) self.old.stored self.new.stored }
+        ensures unserved { IfOk result (λ found. IfSome found (λ key.
+            is_served_at self.new.stored.station key ≡ false)) }
     {
         match door {
             None => self.arrive_over_tcp(),
@@ -137,9 +146,11 @@ impl<D: Disk> Connections<D> {
     }
 
     /// A peer arrives over TCP.
-    #[tactic(auto, using(crate::proofs::Reaching::moved))]
+    #[tactic(auto, using(crate::proofs::Reaching::welcomed))]
     fn arrive_over_tcp(&mut self) -> Result<Option<usize>, NoMemory>
-        ensures { Reaches self.old.stored.station self.new.stored.station }
+        ensures moves { ReachesBy (IsWelcome None) self.old.stored self.new.stored }
+        ensures unserved { IfOk result (λ found. IfSome found (λ key.
+            is_served_at self.new.stored.station key ≡ false)) }
     {
         match self.stored.arrive() {
             Ok(key) => Ok(key),
@@ -148,9 +159,11 @@ impl<D: Disk> Connections<D> {
     }
 
     /// A peer arrives at the door of this place among the doors.
-    #[tactic(auto, using(crate::proofs::Reaching::moved))]
+    #[tactic(auto, using(crate::proofs::Reaching::welcomed))]
     fn arrive_at(&mut self, place: usize) -> Result<Option<usize>, NoMemory>
-        ensures { Reaches self.old.stored.station self.new.stored.station }
+        ensures moves { ReachesBy (IsWelcome (Some place)) self.old.stored self.new.stored }
+        ensures unserved { IfOk result (λ found. IfSome found (λ key.
+            is_served_at self.new.stored.station key ≡ false)) }
     {
         match self.stored.arrive_at(place) {
             Ok(key) => Ok(key),
@@ -159,7 +172,9 @@ impl<D: Disk> Connections<D> {
     }
 
     /// The peer that has waited longest without a whole message, of those of this door, or of TCP.
-    fn find_longest_waiting(&self, door: Option<usize>) -> Option<usize> {
+    fn find_longest_waiting(&self, door: Option<usize>) -> Option<usize>
+        ensures { IfSome result (λ key. is_served_at self.now.stored.station key ≡ false) }
+    {
         let (first, last) = match door {
             None => (0, FREE_PLACES),
             Some(place) => door_keys(place),
@@ -182,22 +197,24 @@ impl<D: Disk> Connections<D> {
 
     /// Since when a peer waits without a whole message, if it does: since it came, and one whose
     /// session has ended since then, or since it last took octets. A message of a node that no site
-    /// has counts for nothing.
-    fn look_for_message(&self, key: usize) -> Option<Waiting> {
+    /// has counts for nothing, and what such a peer sends behind it keeps it no place.
+    fn look_for_message(&self, key: usize) -> Option<Waiting>
+        ensures { is_some result ≡ true → is_served_at self.now.stored.station key ≡ false }
+    {
         let Some(Some(link)) = self.links.get(key) else {
             return None;
         };
-        if let Some(since) = link.closing_since {
+        if self.stored.end(key).is_some() {
             return Some(Waiting {
-                since,
+                since: link.closing_since.unwrap_or(link.came_at),
                 is_unread: false,
             });
         }
         match self.stored.node(key) {
             Some(node) if is_of_a_site(node) => None,
-            _ => Some(Waiting {
+            heard => Some(Waiting {
                 since: link.came_at,
-                is_unread: link.is_unread,
+                is_unread: link.is_unread && heard.is_none(),
             }),
         }
     }
@@ -207,7 +224,7 @@ impl<D: Disk> Connections<D> {
 #[derive(Clone, Copy, Debug, PartialEq, Eq)]
 struct Waiting {
     since: Instant,
-    /// The station hasn't read yet all that the peer sent.
+    /// The station hasn't read yet all that the peer sent, and a first message may be in it.
     is_unread: bool,
 }
 

@@ -121,6 +121,7 @@ fn run_opened<
         Ok(open) => open,
         Err(status) => return status,
     };
+    warn_of_no_doors(rt, options.doors, &open.doors);
     if let Some(till) = house {
         open.gates.set_house(till);
     }
@@ -142,6 +143,15 @@ fn run_opened<
     lines.end(threads);
     open.sockets.remove(rt);
     exit_day(rt, end)
+}
+
+/// Says that the folder of the doors, if there is one, has none: each node may speak over TCP then.
+fn warn_of_no_doors(rt: &impl Eprint, folder: Option<&str>, doors: &Doors) {
+    if let Some(folder) = folder {
+        if doors.len() == 0 {
+            let _ = eprintln!(rt; "no doors in {folder}");
+        }
+    }
 }
 
 /// The house till of this number, if there is to be one; the number, where it is no manager's.

@@ -13,19 +13,22 @@ use Rattle.station.specs.Reads.{HasNoPeer}
 use Rattle.station.specs.Runs.{Move, after, opening_station}
 use Rattle.station.proofs.TillSessions.{tills_have}
 use Rattle.journal.specs.Opening.{HasNobodyOn}
+use Rattle.journal.specs.Stored.{StoredState}
 use Rattle.peer_connections.specs.Reaches.{FindRoom, Reaches}
 use Rattle.day_base.specs.declared.plan.ReportForm.{ReportForm}
 use Rattle.station_days.specs.StationDays.{TellsDay, TellsFront, day_book, day_station}
 use Rattle.day_base.specs.Texts.{places_text, report_in}
 
 -- what a station comes to that was opened at this book
-reached_station : (g : GateState) (opens : Book) (s t : StationState) → s ≡ opening_station g opens
-    → (r : Reaches s t) → t ≡ day_station g opens r.moves
+reached_station : (g : GateState) (opens : Book) (s t : StoredState)
+    → s.station ≡ opening_station g opens
+    → (r : Reaches s t) → t.station ≡ day_station g opens r.moves
 reached_station g opens s t begins r = r.lead ∙ ap (after r.moves) begins
 
 -- its book
-reached_book : (g : GateState) (opens x : Book) (s t : StationState) → s ≡ opening_station g opens
-    → (r : Reaches s t) → x ≡ t.book → x ≡ day_book g opens r.moves
+reached_book : (g : GateState) (opens x : Book) (s t : StoredState)
+    → s.station ≡ opening_station g opens
+    → (r : Reaches s t) → x ≡ t.station.book → x ≡ day_book g opens r.moves
 reached_book g opens x s t begins r is =
     is ∙ ap (λ (u : StationState). u.book) (reached_station g opens s t begins r)
 
@@ -45,15 +48,17 @@ nobody_signed g opens moves off left t =
 
 -- where it listens was written, and then the report
 pub tells_station : (g : GateState) (opens : Book) (u v w : Option (List ℕ)) (said port : Option ℕ)
-    (page_said page : Option ℕ) (form : ReportForm) (x : Book) (s t : StationState)
-    → said ≡ port → page_said ≡ page → s ≡ opening_station g opens
+    (page_said page : Option ℕ) (form : ReportForm) (x : Book) (s t : StoredState)
+    → said ≡ port → page_said ≡ page → s.station ≡ opening_station g opens
     → HasNobodyOn opens
-    → Reaches s t → HasNoPeer t → x ≡ t.book → Appends u v (places_text said page_said)
-    → Appends v w (report_in form x) → TellsDay g opens port page form u w
+    → Reaches s t → HasNoPeer t.station → x ≡ t.station.book
+    → Appends u v (places_text said page_said)
+    → Appends v w (report_in form x) → TellsDay g opens port page form u w t.station
 tells_station g opens u v w said port page_said page form x s t same also begins off r left is line
     report =
     record {
       moves = r.moves;
+      leads = reached_station g opens s t begins r;
       room = subst (FindRoom r.moves) begins r.room;
       left = subst HasNoPeer (reached_station g opens s t begins r) left;
       off = nobody_signed g opens r.moves off
@@ -68,15 +73,16 @@ tells_station g opens u v w said port page_said page form x s t same also begins
 -- .. and then a front of it
 pub tells_station_front : (g : GateState) (opens : Book) (u v w : Option (List ℕ))
     (said port : Option ℕ)
-    (page_said page : Option ℕ) (form : ReportForm) (x : Book) (s t : StationState)
-    → said ≡ port → page_said ≡ page → s ≡ opening_station g opens
-    → Reaches s t → x ≡ t.book → Appends u v (places_text said page_said)
+    (page_said page : Option ℕ) (form : ReportForm) (x : Book) (s t : StoredState)
+    → said ≡ port → page_said ≡ page → s.station ≡ opening_station g opens
+    → Reaches s t → x ≡ t.station.book → Appends u v (places_text said page_said)
     → AppendsFront v w (report_in form x)
-    → TellsFront g opens port page form u w
+    → TellsFront g opens port page form u w t.station
 tells_station_front g opens u v w said port page_said page form x s t same also begins r is line
     report =
     record {
       moves = r.moves;
+      leads = reached_station g opens s t begins r;
       told = Appends-front u v w (places_text port page) (report_in form (day_book g opens r.moves))
           (subst (λ (o : Option ℕ). Appends u v (places_text port o)) also
           (subst (λ (n : Option ℕ). Appends u v (places_text n page_said)) same line))
@@ -87,11 +93,13 @@ tells_station_front g opens u v w said port page_said page form x s t same also 
 -- a front of the lines
 pub tells_station_line : (g : GateState) (opens : Book) (u v : Option (List ℕ))
     (said port : Option ℕ)
-    (page_said page : Option ℕ) (form : ReportForm)
-    → said ≡ port → page_said ≡ page → AppendsFront u v (places_text said page_said)
-    → TellsFront g opens port page form u v
-tells_station_line g opens u v said port page_said page form same also line = record {
+    (page_said page : Option ℕ) (form : ReportForm) (s : StationState)
+    → said ≡ port → page_said ≡ page → s ≡ opening_station g opens
+    → AppendsFront u v (places_text said page_said)
+    → TellsFront g opens port page form u v s
+tells_station_line g opens u v said port page_said page form s same also begins line = record {
   moves = [];
+  leads = begins;
   told = AppendsFront-longer u v (places_text port page) (report_in form (day_book g opens []))
       (subst (λ (o : Option ℕ). AppendsFront u v (places_text port o)) also
       (subst (λ (n : Option ℕ). AppendsFront u v (places_text n page_said)) same line));

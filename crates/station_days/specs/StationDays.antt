@@ -36,18 +36,20 @@ ended_by servers.NoMemory = NoMemory
 ended_by servers.NoConnection = NoConnection
 ended_by servers.NotStored = Write writes.Failed
 
--- the whole text of a day was written, in which each read of a peer found room, and at whose end
--- nobody is there, and no till is signed on
+-- the whole text of a day was written, whose moves led to this station, and in which each read of a
+-- peer found room; at its end nobody is there, and no till is signed on
 pub record TellsDay (gates : GateState) (opens : Book) (port page : Option ℕ) (form : ReportForm)
-    (holds holds' : Option (List ℕ)) : Type 0 where
+    (holds holds' : Option (List ℕ)) (ended : StationState) : Type 0 where
   pub moves : List Move
+  pub leads : ended ≡ day_station gates opens moves
   pub room : FindRoom moves (opening_station gates opens)
   pub left : HasNoPeer (day_station gates opens moves)
   pub off : (t : ℕ) → is_signed_on (site_of_book (day_book gates opens moves)) t ≡ false
   pub told : Appends holds holds' (station_text gates opens port page form moves)
 
--- a front of the text of a day was written
+-- a front of the text of a day was written, whose moves led to this station
 pub record TellsFront (gates : GateState) (opens : Book) (port page : Option ℕ) (form : ReportForm)
-    (holds holds' : Option (List ℕ)) : Type 0 where
+    (holds holds' : Option (List ℕ)) (ended : StationState) : Type 0 where
   pub moves : List Move
+  pub leads : ended ≡ day_station gates opens moves
   pub told : AppendsFront holds holds' (station_text gates opens port page form moves)

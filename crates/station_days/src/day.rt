@@ -6,7 +6,7 @@ ghost use Rattle.day_base.specs.Texts.{report_in};
 ghost use Rattle.devices.specs.Counted.{device_of};
 ghost use Rattle.devices.specs.Devices.{AppendsFront};
 ghost use Rattle.journal.specs.Opening.{HasNobodyOn};
-ghost use Rattle.journal.specs.Stored.{is_all_stored};
+ghost use Rattle.journal.specs.Stored.{JournalGoesOn, is_all_stored};
 ghost use Rattle.station.specs.Runs.{opening_station};
 ghost use Rattle.station_days.specs.StationDays.{TellsDay, TellsFront};
 
@@ -27,7 +27,8 @@ use std::time::Clock;
 /// form, by the figures that its site keeps. Sessions of which nothing comes for so many seconds
 /// are ended. Where waiting for connections fails the day ends so, with `NoConnection` behind the
 /// report; where the journal takes no more it ends with `Write`, without a report, since that would
-/// tell of rows that aren't stored. However it ends, what it wrote is a front of that text.
+/// tell of rows that aren't stored. However it ends, what it wrote is a front of that text, by the
+/// moves that led to the station as it is then, and its journal goes on.
 pub fn station_day<W: Write, T: Wait, R: Clock + Eprint, D: Disk>(
     threads: &T,
     rt: &R,
@@ -45,10 +46,12 @@ pub fn station_day<W: Write, T: Wait, R: Clock + Eprint, D: Disk>(
     requires off { HasNobodyOn connections.old.stored.station.book }
     ensures told { OnOk result (TellsDay connections.old.stored.station.gates
         connections.old.stored.station.book server.old.port server.old.page_port form (W.contents (device_of writer.old))
-        (W.contents (device_of writer.new))) }
+        (W.contents (device_of writer.new)) connections.new.stored.station) }
     ensures front { TellsFront connections.old.stored.station.gates
         connections.old.stored.station.book server.old.port server.old.page_port form (W.contents (device_of writer.old))
-        (W.contents (device_of writer.new)) }
+        (W.contents (device_of writer.new)) connections.new.stored.station }
+    ensures journal { JournalGoesOn connections.old.stored.journal
+        connections.new.stored.journal }
 {
     put_places(alloc, server.port(), server.page_port(), writer, turns)?;
     let served = server.serve(threads, rt, connections, idle);

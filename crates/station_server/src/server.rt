@@ -1,9 +1,10 @@
 //! The server: it waits until connections are ready, round after round.
 
-ghost use Rattle.std.specs.Prelude.{◌≡◌, OnOk, true};
+ghost use Rattle.std.specs.Prelude.{◌≡◌, None, OnOk, Some, true};
 ghost use Rattle.station.specs.Reads.{HasNoPeer};
 ghost use Rattle.journal.specs.Stored.{is_all_stored};
-ghost use Rattle.peer_connections.specs.Reaches.{Reaches};
+ghost use Rattle.peer_connections.specs.Allowed.{IsDismissal, IsHearing, IsWelcome};
+ghost use Rattle.peer_connections.specs.Reaches.{Reaches, ReachesBy};
 
 use crate::doors::Doors;
 use crate::fault::ServerFault;
@@ -141,7 +142,7 @@ impl StationServer {
         connections: &mut Connections<D>,
         idle: Option<u64>,
     ) -> Result<(), ServerFault>
-        ensures moves { Reaches connections.old.stored.station connections.new.stored.station }
+        ensures moves { Reaches connections.old.stored connections.new.stored }
         ensures left { HasNoPeer connections.new.stored.station }
         ensures stored { OnOk result (is_all_stored connections.new.stored ≡ true) }
     {
@@ -162,7 +163,7 @@ impl StationServer {
         connections: &mut Connections<D>,
         idle: Option<u64>,
     ) -> Result<(), ServerFault>
-        ensures { Reaches connections.old.stored.station connections.new.stored.station }
+        ensures { Reaches connections.old.stored connections.new.stored }
     {
         connections.end_releases()?;
         for _ in threads.forever() {
@@ -187,7 +188,7 @@ impl StationServer {
         connections: &mut Connections<D>,
         timeout: Option<Duration>,
     ) -> Result<(), ServerFault>
-        ensures { Reaches connections.old.stored.station connections.new.stored.station }
+        ensures { Reaches connections.old.stored connections.new.stored }
     {
         match self.poll.poll(&mut self.events, timeout) {
             Ok(()) => {
@@ -211,7 +212,7 @@ impl StationServer {
         rt: &R,
         connections: &mut Connections<D>,
     ) -> Result<(), ServerFault>
-        ensures { Reaches connections.old.stored.station connections.new.stored.station }
+        ensures { Reaches connections.old.stored connections.new.stored }
     {
         if !self.is_sweep_due() {
             return Ok(());
@@ -229,7 +230,8 @@ impl StationServer {
     /// of no other.
     fn serve_page<D: Disk>(&mut self, connections: &mut Connections<D>)
         requires { is_all_stored connections.old.stored ≡ true }
-        ensures { connections.new.stored.station ≡ connections.old.stored.station }
+        ensures station { connections.new.stored.station ≡ connections.old.stored.station }
+        ensures journal { connections.new.stored.journal ≡ connections.old.stored.journal }
     {
         let Some(pages) = &mut self.pages else {
             return;
@@ -279,7 +281,7 @@ impl StationServer {
     /// Each connection that is ready has its turn. One of the page has it behind those.
     #[tactic(auto, using(crate::proofs::Rounds::moved))]
     fn take_turns<D: Disk>(&mut self, connections: &mut Connections<D>) -> Result<(), ServerFault>
-        ensures { Reaches connections.old.stored.station connections.new.stored.station }
+        ensures { Reaches connections.old.stored connections.new.stored }
     {
         for event in &self.events {
             match event.token() {
@@ -304,7 +306,7 @@ impl StationServer {
     /// Accepts the connections that wait, at the doors and over TCP, unless accepting has failed.
     #[tactic(auto, using(crate::proofs::Rounds::moved))]
     fn accept_waiting<R: Eprint, D: Disk>(&mut self, rt: &R, connections: &mut Connections<D>)
-        ensures { Reaches connections.old.stored.station connections.new.stored.station }
+        ensures { Reaches connections.old.stored connections.new.stored }
     {
         if self.is_refused {
             return;
@@ -320,7 +322,7 @@ impl StationServer {
     /// Accepts the connections that wait over TCP, if some do.
     #[tactic(auto, using(crate::proofs::Rounds::moved))]
     fn accept_on_port<R: Eprint, D: Disk>(&mut self, rt: &R, connections: &mut Connections<D>)
-        ensures { Reaches connections.old.stored.station connections.new.stored.station }
+        ensures { ReachesBy (IsWelcome None) connections.old.stored connections.new.stored }
     {
         if self.has_callers {
             self.accept_all(rt, connections);
@@ -330,7 +332,7 @@ impl StationServer {
     /// Accepts the connections that wait at the doors, as `accept_all` does.
     #[tactic(auto, using(crate::proofs::Rounds::moved))]
     fn accept_at_doors<R: Eprint, D: Disk>(&mut self, rt: &R, connections: &mut Connections<D>)
-        ensures { Reaches connections.old.stored.station connections.new.stored.station }
+        ensures { Reaches connections.old.stored connections.new.stored }
     {
         for place in 0..self.doors.len() {
             if self.doors.has_callers(place) {
@@ -347,7 +349,7 @@ impl StationServer {
         connections: &mut Connections<D>,
         place: usize,
     )
-        ensures { Reaches connections.old.stored.station connections.new.stored.station }
+        ensures { ReachesBy (IsWelcome (Some place)) connections.old.stored connections.new.stored }
     {
         for _ in 0..ACCEPTS_A_TURN {
             match self.welcome_next_at(rt, connections, place) {
@@ -368,7 +370,7 @@ impl StationServer {
         connections: &mut Connections<D>,
         place: usize,
     ) -> Accepting
-        ensures { Reaches connections.old.stored.station connections.new.stored.station }
+        ensures { ReachesBy (IsWelcome (Some place)) connections.old.stored connections.new.stored }
     {
         match self.accept_one_at(connections, place) {
             Caller::Came(stream) => {
@@ -393,7 +395,7 @@ impl StationServer {
         connections: &mut Connections<D>,
         place: usize,
     ) -> Caller<UnixStream>
-        ensures { Reaches connections.old.stored.station connections.new.stored.station }
+        ensures { ReachesBy IsDismissal connections.old.stored connections.new.stored }
     {
         match self.doors.accept(place) {
             Caller::Failed(error) => {
@@ -410,7 +412,7 @@ impl StationServer {
     /// Accepts one connection that waits over TCP, as `accept_one_at` does.
     #[tactic(auto, using(crate::proofs::Rounds::moved))]
     fn accept_one<D: Disk>(&mut self, connections: &mut Connections<D>) -> Caller<TcpStream>
-        ensures { Reaches connections.old.stored.station connections.new.stored.station }
+        ensures { ReachesBy IsDismissal connections.old.stored connections.new.stored }
     {
         match accept_at(&self.listener) {
             Caller::Failed(error) => {
@@ -428,7 +430,7 @@ impl StationServer {
     /// wait are accepted, and tried again.
     #[tactic(auto, using(crate::proofs::Rounds::moved))]
     fn accept_all<R: Eprint, D: Disk>(&mut self, rt: &R, connections: &mut Connections<D>)
-        ensures { Reaches connections.old.stored.station connections.new.stored.station }
+        ensures { ReachesBy (IsWelcome None) connections.old.stored connections.new.stored }
     {
         for _ in 0..ACCEPTS_A_TURN {
             match self.welcome_next(rt, connections) {
@@ -452,7 +454,7 @@ impl StationServer {
         rt: &R,
         connections: &mut Connections<D>,
     ) -> Accepting
-        ensures { Reaches connections.old.stored.station connections.new.stored.station }
+        ensures { ReachesBy (IsWelcome None) connections.old.stored connections.new.stored }
     {
         match self.accept_one(connections) {
             Caller::Came(stream) => {
@@ -496,7 +498,7 @@ impl StationServer {
         connections: &mut Connections<D>,
         idle: Option<u64>,
     ) -> Result<(), ServerFault>
-        ensures moves { Reaches connections.old.stored.station connections.new.stored.station }
+        ensures moves { Reaches connections.old.stored connections.new.stored }
         ensures stored { OnOk result (is_all_stored connections.new.stored ≡ true) }
     {
         connections.make_owed_due();
@@ -518,7 +520,7 @@ impl StationServer {
         idle: Option<u64>,
     ) -> Result<(), ServerFault>
         requires { is_all_stored connections.old.stored ≡ true }
-        ensures moves { Reaches connections.old.stored.station connections.new.stored.station }
+        ensures moves { Reaches connections.old.stored connections.new.stored }
         ensures stored { OnOk result (is_all_stored connections.new.stored ≡ true) }
     {
         if !self.is_sweep_due() {
@@ -533,7 +535,7 @@ impl StationServer {
     /// Accepts again, where that failed.
     #[tactic(auto, using(crate::proofs::Rounds::moved))]
     fn accept_again<R: Eprint, D: Disk>(&mut self, rt: &R, connections: &mut Connections<D>)
-        ensures { Reaches connections.old.stored.station connections.new.stored.station }
+        ensures { Reaches connections.old.stored connections.new.stored }
     {
         if self.is_refused {
             self.is_refused = false;
@@ -589,7 +591,7 @@ fn take_turn<D: Disk>(
     key: usize,
     now: Instant,
 ) -> Result<(), DiskFault>
-    ensures { Reaches connections.old.stored.station connections.new.stored.station }
+    ensures { ReachesBy (IsHearing key) connections.old.stored connections.new.stored }
 {
     if event.is_writable() {
         connections.unblock(key);

@@ -1,5 +1,6 @@
-use Rattle.peer_connections.specs.Reaches.{Reaches}
+use Rattle.peer_connections.specs.Allowed.{IsOwn}
+use Rattle.peer_connections.specs.Reaches.{ReachesBy}
 use Rattle.peer_connections.proofs.connections.Connections.end_releases.Given as goal
 
 abbrev pub invariant-loop-number : goal.invariant-loop-number
-invariant-loop-number g l = Reaches l.fn.self.stored.station l.self.stored.station
+invariant-loop-number g l = ReachesBy IsOwn l.fn.self.stored l.self.stored

@@ -2,4 +2,4 @@ use Rattle.peer_connections.specs.Reaches.{Reaches}
 use Rattle.peer_connections.proofs.connections.Connections.finish_all.Given as goal
 
 abbrev pub invariant-loop-key : goal.invariant-loop-key
-invariant-loop-key g l = Reaches l.fn.self.stored.station l.self.stored.station
+invariant-loop-key g l = Reaches l.fn.self.stored l.self.stored

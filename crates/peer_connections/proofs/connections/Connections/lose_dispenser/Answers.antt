@@ -4,4 +4,4 @@ use Rattle.peer_connections.proofs.connections.Connections.lose_dispenser.Goals 
 pub returns : goal.returns
 returns g c =
     let lost = c.lose_dispenser.ensures.station in
-    reaches_lost lost.0 c.args.p _ _ lost.1
+    reaches_lost lost.0 c.args.p _ _ lost.1 c.lose_dispenser.ensures.journal

@@ -5,6 +5,6 @@ use Rattle.peer_connections.proofs.connections.Connections.remove_all.Given as g
 
 abbrev pub invariant-loop-key : goal.invariant-loop-key
 invariant-loop-key g l = record {
-  moves : Reaches l.fn.self.stored.station l.self.stored.station;
+  moves : Reaches l.fn.self.stored l.self.stored;
   gone : (k : ℕ) → k < l.key → peer_at l.self.stored.station.peers k ≡ None;
 }

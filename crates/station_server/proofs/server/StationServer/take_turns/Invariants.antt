@@ -5,5 +5,5 @@ abbrev pub invariant-loop-event : goal.invariant-loop-event
 invariant-loop-event g l = record {
   next : (goal.iterator-loop-event g).can_next l.event-iterator;
   few : (goal.iterator-loop-event g).is_finite l.event-iterator;
-  reached : Reaches l.fn.connections.stored.station l.connections.stored.station;
+  reached : Reaches l.fn.connections.stored l.connections.stored;
 }

@@ -1,0 +1,87 @@
+-- Which moves belong to what is done for a peer, or by the station itself.
+use Rattle.std.specs.Prelude.{◌≡◌, ℕ, Bool, false, ◌&&◌, ◌||◌, ◌==◌, List, Option, Some, None}
+use Rattle.std.specs.Prelude.{is_none, slice_index, ⊤}
+use Rattle.site_base.specs.declared.limits.TheConstants.{POINTS, TILLS}
+use Rattle.site_base.specs.Ranges.{is_between}
+use Rattle.device_map.specs.declared.ids.TheConstants.{DISPENSER_SUBNET, TILL_SUBNET}
+use Rattle.station.specs.Moves.{StationState}
+use Rattle.station.specs.Peers.{peer_at}
+use Rattle.station.specs.Reads.{end_at, node_at}
+use Rattle.station.specs.Runs.{Arrives, EndsRelease, Finishes, Forgets, Leaves, Loses, Move, Says}
+use Rattle.station.specs.Runs.{Takes}
+use Rattle.station.specs.Sessions.{Session}
+
+-- ---- who may leave
+
+abbrev pub lasts : Option Session → Bool
+lasts None = false
+lasts (Some x) = is_none x.end
+
+-- a key's peer has a session that lasts
+abbrev pub lasts_at : StationState → ℕ → Bool
+lasts_at s k = lasts (peer_at s.peers k)
+
+-- the node of a till, and of a dispenser
+abbrev pub is_till_node : List ℕ → Bool
+is_till_node node =
+    slice_index node 0 == TILL_SUBNET && is_between 1 TILLS (slice_index node 1)
+
+abbrev pub is_dispenser_node : List ℕ → Bool
+is_dispenser_node node =
+    slice_index node 0 == DISPENSER_SUBNET && is_between 1 POINTS (slice_index node 1)
+
+-- whoever sent the first message, if there was one, may be a peer of a site
+abbrev pub is_known : Option (List ℕ) → Bool
+is_known None = false
+is_known (Some node) = is_till_node node || is_dispenser_node node
+
+-- a key's peer has a session that lasts, and has brought a message of a site's node
+abbrev pub is_served_at : StationState → ℕ → Bool
+is_served_at s k = is_none (end_at s k) && is_known (node_at s k)
+
+-- ---- what is done
+
+-- The peer of this key is heard: its octets are, or that they have ended. For room the rows in
+-- memory may be forgotten.
+abbrev pub IsHearing : ℕ → Move → StationState → Type 0
+IsHearing k (Says memory j octets) s = j ≡ k
+IsHearing k (Finishes j) s = j ≡ k
+IsHearing k Forgets s = ⊤
+IsHearing k m s = ⊥
+
+-- .. it is sent to: it takes what it is owed
+abbrev pub IsSending : ℕ → Move → StationState → Type 0
+IsSending k (Takes j n) s = j ≡ k
+IsSending k m s = ⊥
+
+-- .. its connection follows its session: it takes what it is owed, its session ends, and it leaves
+-- once that has ended
+abbrev pub IsClosing : ℕ → Move → StationState → Type 0
+IsClosing k (Takes j n) s = j ≡ k
+IsClosing k (Finishes j) s = j ≡ k
+IsClosing k (Leaves j) s = (j ≡ k) × (lasts_at s j ≡ false)
+IsClosing k m s = ⊥
+
+-- .. it was waited for too long: its session ends, or it leaves
+abbrev pub IsLate : ℕ → Move → StationState → Type 0
+IsLate k (Finishes j) s = j ≡ k
+IsLate k (Leaves j) s = j ≡ k
+IsLate k m s = ⊥
+
+-- a peer leaves that isn't served
+abbrev pub IsDismissal : Move → StationState → Type 0
+IsDismissal (Leaves j) s = is_served_at s j ≡ false
+IsDismissal m s = ⊥
+
+-- A peer comes at this door, or at none: it arrives there, and peers leave that aren't served.
+abbrev pub IsWelcome : Option ℕ → Move → StationState → Type 0
+IsWelcome door (Arrives key at) s = at ≡ door
+IsWelcome door (Leaves j) s = is_served_at s j ≡ false
+IsWelcome door m s = ⊥
+
+-- the station acts by itself, for which the rows in memory may be forgotten
+abbrev pub IsOwn : Move → StationState → Type 0
+IsOwn (EndsRelease on off p) s = ⊤
+IsOwn (Loses memory p) s = ⊤
+IsOwn Forgets s = ⊤
+IsOwn m s = ⊥
