@@ -247,6 +247,15 @@ def only_doors():
 
 
 @test
+def a_folder_without_doors():
+    """A folder in which no node has a folder is said at the start: each node speaks over TCP then."""
+    doors, folder = Doors("none"), HERE / "history beside no doors"
+    with start_station("--doors", doors.folder, "--history", folder) as day, day.connect() as till:
+        expect_done(till, sign_on(1))
+        end(day, f"no doors in {doors.folder}\n")
+
+
+@test
 def sockets_of_earlier_runs():
     """A socket that a killed station left is replaced; one at which a station answers isn't, and
     that station goes on."""
@@ -597,6 +606,24 @@ def invented_nodes_hold_no_place():
         expect("of nodes of a site", count_closed(peers[:kept]), 0)
         expect("the first two others", count_closed(peers[kept : kept + 2]), 2)
         expect("the others", count_closed(peers[kept + 2 :]), 0)
+        end(day, None)
+
+
+@test
+def invented_nodes_that_send_without_end():
+    """1,024 sessions of nodes that no site has have spoken, and each sends more than is read of it.
+    Sixteen that come at once and speak a moment later are all heard: those others leave for them."""
+    nodes = list_invented_nodes()
+    with start_station() as day, contextlib.ExitStack() as stack:
+        peers = speak_as(stack, day, nodes)
+        expect("places that are taken", len(peers), MOST_PEERS)
+        for at, peer in enumerate(peers):
+            peer.setblocking(False)
+            flood(peer, encode((SITE, 1), nodes[at // MOST_OF_A_NODE], 0, 1, b"\x01") * 4_000)
+        newcomers = [stack.enter_context(day.connect()) for _ in range(16)]
+        time.sleep(QUIET)
+        for n, till in enumerate(newcomers, 1):
+            expect(f"till {n}", number(ask(till, read_site(n, 1))), NOT_SIGNED_ON)
         end(day, None)
 
 
