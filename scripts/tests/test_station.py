@@ -17,9 +17,11 @@ import select
 import signal
 import socket
 import statistics
+import struct
 import subprocess
 import sys
 import tempfile
+import termios
 import threading
 import time
 
@@ -72,6 +74,7 @@ FLOODED_KILOBYTES = 64_000  # .. and with floods that aren't read
 STEPS = 150  # requests of each till and its dispensers
 SOON = 10  # seconds, for a connection that is closed at once if all is well
 URGENT = 200  # times that a till sends urgent data
+IDLE = 10  # seconds of --idle, in which buffers are full on a busy machine, too
 TAKING = 60  # seconds that a till has which takes nothing, without --idle
 LEAVING = 30  # seconds more, for the sweep, and for a connection that closes
 CLOSING = 5  # seconds that a peer has which doesn't hang up
@@ -652,12 +655,13 @@ def urgent_data():
 def a_till_that_takes_nothing():
     """A till whose output is full, since it takes nothing, is left after the seconds of --idle, and
     without it after sixty, here one that sends no more. Its till isn't signed on then."""
-    for words, seconds in ((["--idle", "2"], 2), ([], TAKING)):
+    for words, seconds in ((["--idle", str(IDLE)], IDLE), ([], TAKING)):
         told = f"session of t1: nothing was taken for {seconds} seconds\n"
         with start_station(*words) as day, day.connect() as deaf:
             ask(deaf, sign_on(1), SIGNED_ON[1])
             closing, port = threading.Event(), deaf.getsockname()[1]
             deaf.setblocking(False)
+            begun = time.monotonic()
             sender = threading.Thread(target=send_until, args=(deaf, closing, 1))
             sender.start()
             try:
@@ -665,13 +669,14 @@ def a_till_that_takes_nothing():
             finally:
                 closing.set()
                 sender.join()
-            begun = time.monotonic()
+            full = time.monotonic()
             if not words:
                 deaf.shutdown(socket.SHUT_WR)
-            while day.queues(port) is not None and time.monotonic() < begun + seconds + LEAVING:
+            while day.queues(port) is not None and time.monotonic() < full + seconds + LEAVING:
                 time.sleep(0.1)
-            took = time.monotonic() - begun
-            expect(f"left after {took:.1f} seconds", seconds - 1 <= took < seconds + LEAVING, True)
+            left = time.monotonic()
+            is_in_time = left - begun >= seconds and left - full < seconds + LEAVING
+            expect(f"left {left - full:.1f} seconds after it was full", is_in_time, True)
             with day.connect() as again:
                 ask(again, sign_on(1), SIGNED_ON[1])
             end(day, told)
@@ -792,39 +797,49 @@ def a_slow_disk():
         end(day, told)
 
 
-def change_until_behind(day, till, port):
+def count_unread(peer):
+    """How many octets have come that the peer hasn't read."""
+    return struct.unpack("i", fcntl.ioctl(peer, termios.FIONREAD, b"\0" * 4))[0]
+
+
+def change_until_behind(till, pump):
     """Changes a point until its dispenser, which never reads, is owed some 100,000 octets beside
     what its connection holds."""
     both, sent = command_point(1, 2, 1, SUSPEND) + command_point(1, 2, 1, RESUME), 0
-    while sent - day.queues(port)[0] < 100_000:
-        while sent - day.queues(port)[0] < 100_000:
-            ask(till, 500 * both, 1_000 * DONE)
-            sent += 1_000 * len(SUSPENDED)
-        time.sleep(3)  # the system may give the connection more room
+    while sent - count_unread(pump) < 100_000:
+        ask(till, 500 * both, 1_000 * DONE)
+        sent += 1_000 * len(SUSPENDED)
+
+
+def has_hung_up(peer):
+    """Whether the station has closed the connection, whatever it has told before."""
+    poll = select.poll()
+    poll.register(peer, 0)
+    return any(event & select.POLLHUP for _, event in poll.poll(0))
 
 
 @test_beside
 def a_dispenser_behind_while_nobody_speaks():
     """A dispenser that never reads, and is behind by notices alone, is left, though nobody speaks
-    any more."""
+    any more. It is one at a door, since the system gives such a connection no more room later."""
     told = f"session of d1: nothing was taken for {TAKING} seconds\n"
-    with start_station() as day, day.connect() as till, socket.socket() as pump:
-        pump.setsockopt(socket.SOL_SOCKET, socket.SO_RCVBUF, 4_096)
-        pump.connect(("127.0.0.1", day.port))
-        ask(pump, say(1), refuse(1, 2))
-        ask(till, sign_on(1), SIGNED_ON[1])
-        ask(till, command_point(1, 2, 1, OPEN) + command_point(1, 2, 1, RELEASE), DONE + DONE)
-        with day.connect() as lifting:
-            ask(lifting, report(1, 3, LIFT, 0), LIFTED)
-        port = pump.getsockname()[1]
-        change_until_behind(day, till, port)
-        begun = time.monotonic()
-        while day.queues(port) is not None and time.monotonic() < begun + TAKING + LEAVING:
-            time.sleep(0.1)
-        took = time.monotonic() - begun
-        is_in_time = TAKING - 1 <= took < TAKING + LEAVING
-        expect(f"left after {took:.1f} seconds", is_in_time, True)
-        end(day, told)
+    doors = make_doors("dispenser-01")
+    with start_station("--doors", doors) as day, day.connect() as till:
+        with connect_at(doors / "dispenser-01") as pump:
+            ask(pump, say(1), refuse(1, 2))
+            ask(till, sign_on(1), SIGNED_ON[1])
+            opened = command_point(1, 2, 1, OPEN) + command_point(1, 2, 1, RELEASE)
+            ask(till, opened, DONE + DONE)
+            with connect_at(doors / "dispenser-01") as lifting:
+                ask(lifting, report(1, 3, LIFT, 0), LIFTED)
+            change_until_behind(till, pump)
+            begun = time.monotonic()
+            while not has_hung_up(pump) and time.monotonic() < begun + TAKING + LEAVING:
+                time.sleep(0.1)
+            took = time.monotonic() - begun
+            is_in_time = TAKING - 1 <= took < TAKING + LEAVING
+            expect(f"left after {took:.1f} seconds", is_in_time, True)
+            end(day, told)
 
 
 def expect_at_rate(peer, sent, wanted, rate):
