@@ -163,10 +163,13 @@ fn make_for_good<R: Files<File = File> + AllocGlobal>(
 }
 
 /// Has on the disk which folders this one has, unless it can't be looked at, or has no flush: then
-/// somebody else has made what is in it.
+/// somebody else has made what is in it. What has the folder's name and is no folder is refused as
+/// its lock is opened.
 fn flush_again<R: Files<File = File>>(rt: &R, above: &str) -> Result<(), FileFault> {
     match flush_folder(rt, above) {
-        Err(error) if !is_anothers(error.kind()) => Err(fault_of_write(&error)),
+        Err(error) if !is_anothers(error.kind()) && !is_no_folder(error.kind()) => {
+            Err(fault_of_write(&error))
+        }
         _ => Ok(()),
     }
 }
@@ -179,6 +182,14 @@ fn is_anothers(kind: ErrorKind) -> bool {
             | ErrorKind::InvalidInput
             | ErrorKind::ReadOnlyFilesystem
             | ErrorKind::Unsupported
+    )
+}
+
+/// Does the error say that no folder is there?
+fn is_no_folder(kind: ErrorKind) -> bool {
+    matches!(
+        kind,
+        ErrorKind::NotFound | ErrorKind::NotADirectory | ErrorKind::FilesystemLoop
     )
 }
 
