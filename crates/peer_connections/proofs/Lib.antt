@@ -1,2 +1,4 @@
-pub mod Reaching
 pub mod Leaving
+pub mod Linking
+pub mod Reaching
+pub mod Streaming

@@ -1,11 +1,15 @@
 -- Moves of a station, one after another.
 use Rattle.std.proofs.Common.{◌≡◌, ℕ, List, [], ◌∷◌, ◌++◌, Option, Some, None, refl, sym, ap, ◌∙◌}
 use Rattle.std.proofs.Common.{◌+◌, ◌<◌, ◌≤◌, Bool, arith, false, inl, inr, subst, true}
+use Rattle.std.proofs.Common.{append-nil}
+use Rattle.std.specs.Io.KnownBytes.{Consumes, Keeps}
+use Rattle.devices.proofs.KnownBytes.{Consumes-kept, Consumes-none}
 use Rattle.std.specs.Prelude.{IfSome, ◌&&◌, is_none, nat_lt, slice_get, if◌then◌else◌}
 use Rattle.std.proofs.lemmas.Bool.Decides.{nat_tests}
 use Rattle.station.specs.declared.peer_end.PeerEnd.{PeerEnd}
 use Rattle.station.specs.declared.sizes.TheConstants.{FREE_PLACES}
-use Rattle.station.specs.Moves.{StationState, end_release, finish_at, lose, rows_since, with_arrival}
+use Rattle.station.specs.Moves.{StationState, end_release, finish_at, lose, rows_since}
+use Rattle.station.specs.Moves.{with_arrival}
 use Rattle.station.specs.Moves.{with_end, with_turn, without_peer}
 use Rattle.station.specs.Peers.{peer_at, with_notices}
 use Rattle.station.specs.Places.{first_place, is_place_at}
@@ -28,6 +32,7 @@ use Rattle.peer_connections.specs.Allowed.{lasts_at}
 use Rattle.peer_connections.specs.Calls.{HearsCall, HearsWithRoom, SendsCall}
 use Rattle.peer_connections.specs.Reaches.{AreAllowed, FindRoom, FindsRoom, IsAny, Reaches}
 use Rattle.peer_connections.specs.Reaches.{ReachesBy}
+use Rattle.peer_connections.specs.Streams.{said_in}
 
 -- moves, and then more
 after_both : (ms more : List Move) (s : StationState)
@@ -323,7 +328,7 @@ still_read k s t (inl same) read = ap (λ (x : StationState). is_read_at x k) sa
 still_read k s t (inr forgets) read = ap (λ (x : StationState). is_read_at x k) forgets ∙ read
 
 -- what is read, where there is room, once the journal went on so far
-reaches_read : (call : Call) (k : ℕ) (left left' : Option (List ℕ)) (s t : StoredState)
+pub reaches_read : (call : Call) (k : ℕ) (left left' : Option (List ℕ)) (s t : StoredState)
     → HasRoomToHear s.station.book → HearsCall call k left left' s.station t.station
     → JournalGoesOn s.journal t.journal → ReachesBy (IsHearing k) s t
 reaches_read (Passed n) k left left' s t room hears goes =
@@ -339,7 +344,7 @@ reaches_read Failed k left left' s t room hears goes =
     reaches_by (IsHearing k) (Finishes k) s t tt refl hears.1 goes
 
 -- room was made for what is read of this peer
-reaches_ready : (k : ℕ) (s t : StoredState) → IsSameOrForgets s.station t.station
+pub reaches_ready : (k : ℕ) (s t : StoredState) → IsSameOrForgets s.station t.station
     → JournalGoesOn s.journal t.journal → ReachesBy (IsHearing k) s t
 reaches_ready k s t (inl same) goes = reaches_kept (IsHearing k) s t same goes
 reaches_ready k s t (inr forgets) goes =
@@ -363,6 +368,43 @@ reaches_written Ended k got got' s t sends = absurd sends
 reaches_written Interrupted k got got' s t sends = reaches_same (IsSending k) s t sends.1
 reaches_written Waits k got got' s t sends = reaches_same (IsSending k) s t sends.1
 reaches_written Failed k got got' s t sends = reaches_same (IsSending k) s t sends.1
+
+-- no known octet was read
+consumed_none : (left left' : Option (List ℕ)) → Keeps left left' → Consumes left left' []
+consumed_none left left' keeps = Consumes-kept left left left' [] (Consumes-none left) keeps
+
+-- ---- the moves of what was done
+
+pub moves_of_same : (allowed : Move → StationState → Type 0) (s t : StoredState) (same : t ≡ s)
+    → (reaches_same allowed s t same).moves ≡ []
+unfolding reaches_same reaches_kept
+moves_of_same allowed s t same = refl
+
+pub moves_of_both : (allowed : Move → StationState → Type 0) (s t u : StoredState)
+    (first : ReachesBy allowed s t) (last : ReachesBy allowed t u)
+    → (reaches_then allowed s t u first last).moves ≡ first.moves ++ last.moves
+unfolding reaches_then
+moves_of_both allowed s t u first last = refl
+
+-- what was said while room was made, and in a read
+pub said_ready : (k : ℕ) (s t : StoredState) (made : IsSameOrForgets s.station t.station)
+    (goes : JournalGoesOn s.journal t.journal) → said_in (reaches_ready k s t made goes).moves ≡ []
+unfolding reaches_ready reaches_kept reaches_by
+said_ready k s t (inl same) goes = refl
+said_ready k s t (inr forgets) goes = refl
+
+pub said_read : (call : Call) (k : ℕ) (left left' : Option (List ℕ)) (s t : StoredState)
+    (room : HasRoomToHear s.station.book)
+    (hears : HearsCall call k left left' s.station t.station)
+    (goes : JournalGoesOn s.journal t.journal)
+    → Consumes left left' (said_in (reaches_read call k left left' s t room hears goes).moves)
+unfolding reaches_read reaches_kept reaches_by
+said_read (Passed n) k left left' s t room hears goes =
+    subst (Consumes left left') (sym (append-nil hears.octets)) hears.read
+said_read Ended k left left' s t room hears goes = hears.0
+said_read Interrupted k left left' s t room hears goes = consumed_none left left' hears.0
+said_read Waits k left left' s t room hears goes = consumed_none left left' hears.0
+said_read Failed k left left' s t room hears goes = consumed_none left left' hears.0
 
 -- ---- what each function is made of
 

@@ -25,7 +25,8 @@ pub record HearsOctets (n key : ℕ) (left left' : Option (List ℕ)) (s s' : St
 abbrev pub HearsCall : Call → ℕ → Option (List ℕ) → Option (List ℕ) → StationState → StationState
     → Type 0
 HearsCall (Passed n) key left left' s s' = HearsOctets n key left left' s s'
-HearsCall Ended key left left' s s' = IsAtEnd left' × (s' ≡ with_end key s)
+HearsCall Ended key left left' s s' =
+    Consumes left left' [] × (s' ≡ with_end key s) × IsAtEnd left'
 HearsCall Failed key left left' s s' = Keeps left left' × (s' ≡ with_end key s)
 HearsCall call key left left' s s' = Keeps left left' × (s' ≡ s)
 

@@ -1,3 +1,5 @@
 pub mod Allowed
 pub mod Calls
+pub mod Links
 pub mod Reaches
+pub mod Streams

@@ -61,6 +61,7 @@ pub(crate) fn read_with_room<R: Read, D: Disk>(
     ensures hears { IfOk result (λ call. HearsWithRoom call key (R.remaining reader.old)
         (R.remaining reader.new) stored.old.station stored.new.station) }
     ensures err { OnErr result (stored.new.station ≡ stored.old.station) }
+    ensures unread { OnErr result (reader.new ≡ reader.old) }
     ensures journal { JournalGoesOn stored.old.journal stored.new.journal }
 {
     changes.look(stored.book());

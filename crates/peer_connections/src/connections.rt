@@ -7,12 +7,14 @@ ghost use Rattle.station.specs.Moves.{without_peer};
 ghost use Rattle.station.specs.Reads.{HasNoPeer};
 ghost use Rattle.journal.specs.Stored.{JournalGoesOn, is_all_stored, since_of, with_station};
 ghost use Rattle.peer_connections.specs.Allowed.{IsClosing, IsHearing, IsSending, lasts_at};
+ghost use Rattle.peer_connections.specs.Links.{OthersStay};
 ghost use Rattle.peer_connections.specs.Reaches.{Reaches, ReachesBy};
 
 use crate::change_watch::ChangeWatch;
 use crate::due_list::DueList;
 use crate::link::{Channel, Link};
 use crate::naming::EndedSession;
+use crate::peer_stream::PeerStream;
 use crate::shift_warning::warn_of_last_shifts;
 use crate::upkeep::{Patience, Upkeep};
 use journal::{ChapterEnd, Disk, DiskFault, StoredStation};
@@ -28,7 +30,7 @@ use std::time::Instant;
 #[derive(Drop)]
 pub struct Connections<D: Disk> {
     pub(crate) stored: StoredStation<D>,
-    pub(crate) links: Vec<Option<Link>>,
+    pub(crate) links: Vec<Option<Link<PeerStream>>>,
     pub(crate) piece: Vec<u8>,
     /// Those that are sent what they are owed at the end of this round.
     pub(crate) due: DueList,
@@ -93,11 +95,17 @@ impl<D: Disk> Connections<D> {
     /// Closes the connections that are left, and lets the station go.
     pub fn close(self) {}
 
-    /// The book of the station.
-    pub fn book(&self) -> &SiteBook
-        ensures { result.now ≡ self.now.stored.station.book }
+    /// The book of the station, where each of its rows is stored: of another nobody is shown
+    /// anything.
+    pub fn stored_book(&self) -> Option<&SiteBook>
+        ensures there { is_some result ≡ is_all_stored self.now.stored }
+        ensures book { IfSome result (λ book. book.now ≡ self.now.stored.station.book) }
     {
-        self.stored.book()
+        if self.stored.is_all_stored() {
+            Some(self.stored.book())
+        } else {
+            None
+        }
     }
 
     /// Looks up which transactions of the station are unpaid.
@@ -136,13 +144,6 @@ impl<D: Disk> Connections<D> {
         ensures there { is_some result ≡ is_some self.now.stored.journal }
     {
         self.stored.last_seal()
-    }
-
-    /// Is each row stored?
-    pub fn is_all_stored(&self) -> bool
-        ensures { result ≡ is_all_stored self.now.stored }
-    {
-        self.stored.is_all_stored()
     }
 
     /// Stores each row that isn't stored yet: its peers may be told then.
@@ -225,14 +226,39 @@ impl<D: Disk> Connections<D> {
     /// A peer has sent something, or hung up. With `to_wait` it is read until its connection waits,
     /// as `Link::hear` says. Where the station's book can't be given room for what it sent, it
     /// isn't read from.
-    #[tactic(auto, using(crate::proofs::Reaching::moved))]
+    #[tactic(auto, using(crate::proofs::Reaching::moved, crate::proofs::Linking::kept))]
     pub fn hear(&mut self, key: usize, to_wait: bool, now: Instant) -> Result<(), DiskFault>
-        ensures { ReachesBy (IsHearing key) self.old.stored self.new.stored }
+        ensures moves { ReachesBy (IsHearing key) self.old.stored self.new.stored }
+        ensures others { OthersStay key self.old.links.items self.new.links.items }
     {
-        if let Some(Some(link)) = self.links.get_mut(key) {
-            if link.closing_since.is_some() {
-                link.ignore(&mut self.piece);
-            } else if link.held_until.is_none() {
+        if self.hear_link(key, to_wait, now)? {
+            if let Some(until) = self.held_until(key) {
+                self.note_hold(until);
+            }
+            if !self.stored.is_read(key) {
+                self.may_wait = true;
+            }
+            self.note_dispenser(key);
+        }
+        Ok(())
+    }
+
+    /// A peer's connection is read, and the station hears it, unless it is held back. Where its
+    /// session has ended nobody hears it. Says whether the station may have heard it.
+    #[tactic(auto, using(crate::proofs::Streaming::heard))]
+    fn hear_link(&mut self, key: usize, to_wait: bool, now: Instant) -> Result<bool, DiskFault>
+        ensures moves { ReachesBy (IsHearing key) self.old.stored self.new.stored }
+        ensures others { OthersStay key self.old.links.items self.new.links.items }
+    {
+        if let Some(slot) = self.links.get_mut(key) {
+            if let Some(link) = slot {
+                if link.closing_since.is_some() {
+                    link.ignore(&mut self.piece);
+                    return Ok(false);
+                }
+                if link.held_until.is_some() {
+                    return Ok(false);
+                }
                 let changes = &mut self.changes;
                 link.hear(
                     &mut self.stored,
@@ -242,17 +268,18 @@ impl<D: Disk> Connections<D> {
                     to_wait,
                     now,
                 )?;
-                let held_until = link.held_until;
-                if let Some(until) = held_until {
-                    self.note_hold(until);
-                }
-                if !self.stored.is_read(key) {
-                    self.may_wait = true;
-                }
-                self.note_dispenser(key);
+                return Ok(true);
             }
         }
-        Ok(())
+        Ok(false)
+    }
+
+    /// Until when a session is held back, if it is.
+    fn held_until(&self, key: usize) -> Option<Instant> {
+        match self.links.get(key) {
+            Some(Some(link)) => link.held_until,
+            _ => None,
+        }
     }
 
     /// Did reading from a peer stop before it was known to have no more?
@@ -264,8 +291,10 @@ impl<D: Disk> Connections<D> {
     }
 
     /// A peer's connection takes octets again.
+    #[tactic(auto, using(crate::proofs::Linking::kept))]
     pub fn unblock(&mut self, key: usize)
-        ensures { self.new.stored ≡ self.old.stored }
+        ensures stored { self.new.stored ≡ self.old.stored }
+        ensures others { OthersStay key self.old.links.items self.new.links.items }
     {
         if let Some(slot) = self.links.get_mut(key) {
             if let Some(link) = slot {
@@ -276,7 +305,8 @@ impl<D: Disk> Connections<D> {
 
     /// A peer is sent what it is owed at the end of this round.
     pub fn make_due(&mut self, key: usize)
-        ensures { self.new.stored ≡ self.old.stored }
+        ensures stored { self.new.stored ≡ self.old.stored }
+        ensures links { self.new.links ≡ self.old.links }
     {
         self.due.add(key);
     }
@@ -382,28 +412,45 @@ impl<D: Disk> Connections<D> {
     }
 
     /// A peer is sent what it is owed, and its connection follows its session.
-    #[tactic(auto, using(crate::proofs::Reaching::moved))]
+    #[tactic(auto, using(crate::proofs::Reaching::moved, crate::proofs::Linking::kept))]
     fn send_owed<E: Eprint>(&mut self, registry: &Registry, rt: &E, key: usize, now: Instant)
-        ensures { ReachesBy (IsClosing key) self.old.stored self.new.stored }
+        ensures moves { ReachesBy (IsClosing key) self.old.stored self.new.stored }
+        ensures others { OthersStay key self.old.links.items self.new.links.items }
     {
-        let Some(Some(link)) = self.links.get_mut(key) else {
-            return;
-        };
-        link.send(&mut self.stored, key, now);
-        if link.channel == Channel::Failed {
-            self.stored.finish(key);
-            self.begin_to_close(rt, key, now);
-            self.remove(key);
-            return;
+        match self.send_link(key, now) {
+            None => {}
+            Some(Channel::Failed) => {
+                self.stored.finish(key);
+                self.begin_to_close(rt, key, now);
+                self.remove(key);
+            }
+            Some(_) => {
+                self.follow_session(rt, key, now);
+                self.report_again(registry, key);
+            }
         }
-        self.follow_session(rt, key, now);
-        self.report_again(registry, key);
+    }
+
+    /// A peer is sent what it may be told. What it can still do then, if it has a connection.
+    #[tactic(auto, using(crate::proofs::Streaming::sent))]
+    fn send_link(&mut self, key: usize, now: Instant) -> Option<Channel>
+        ensures moves { ReachesBy (IsSending key) self.old.stored self.new.stored }
+        ensures others { OthersStay key self.old.links.items self.new.links.items }
+    {
+        if let Some(slot) = self.links.get_mut(key) {
+            if let Some(link) = slot {
+                link.send(&mut self.stored, key, now);
+                return Some(link.channel);
+            }
+        }
+        None
     }
 
     /// A peer's connection closes, if its session has ended.
-    #[tactic(auto, using(crate::proofs::Reaching::closed))]
+    #[tactic(auto, using(crate::proofs::Reaching::closed, crate::proofs::Linking::kept))]
     fn follow_session<E: Eprint>(&mut self, rt: &E, key: usize, now: Instant)
-        ensures { ReachesBy (IsClosing key) self.old.stored self.new.stored }
+        ensures moves { ReachesBy (IsClosing key) self.old.stored self.new.stored }
+        ensures others { OthersStay key self.old.links.items self.new.links.items }
     {
         if let Some(end) = self.stored.end(key) {
             self.begin_to_close(rt, key, now);
@@ -413,24 +460,30 @@ impl<D: Disk> Connections<D> {
 
     /// Where a peer's turn was over before all was read or sent that could be, its connection is
     /// reported once more.
+    #[tactic(auto, using(crate::proofs::Linking::kept))]
     fn report_again(&mut self, registry: &Registry, key: usize)
-        ensures { self.new.stored ≡ self.old.stored }
+        ensures stored { self.new.stored ≡ self.old.stored }
+        ensures others { OthersStay key self.old.links.items self.new.links.items }
     {
         let is_read = self.stored.is_read(key);
         let is_owed = self.stored.is_owed(key);
-        if let Some(Some(link)) = self.links.get_mut(key) {
-            let is_heard = is_read && link.held_until.is_none();
-            let is_left = link.is_unread && (is_heard || link.closing_since.is_some());
-            if is_left || is_owed && !link.is_full {
-                link.stream.watch_again(registry, key);
+        if let Some(slot) = self.links.get_mut(key) {
+            if let Some(link) = slot {
+                let is_heard = is_read && link.held_until.is_none();
+                let is_left = link.is_unread && (is_heard || link.closing_since.is_some());
+                if is_left || is_owed && !link.is_full {
+                    link.stream.watch_again(registry, key);
+                }
             }
         }
     }
 
     /// The session of a peer has ended: its connection is one that closes. That is told once, where
     /// it ended otherwise than with its peer's octets.
+    #[tactic(auto, using(crate::proofs::Linking::kept))]
     fn begin_to_close<E: Eprint>(&mut self, rt: &E, key: usize, now: Instant)
-        ensures { self.new.stored ≡ self.old.stored }
+        ensures stored { self.new.stored ≡ self.old.stored }
+        ensures others { OthersStay key self.old.links.items self.new.links.items }
     {
         if !self.note_closing(key, now) {
             return;
@@ -446,14 +499,18 @@ impl<D: Disk> Connections<D> {
     }
 
     /// The connection of a peer is one that closes; false where it was one.
+    #[tactic(auto, using(crate::proofs::Linking::kept))]
     pub(crate) fn note_closing(&mut self, key: usize, now: Instant) -> bool
-        ensures { self.new.stored ≡ self.old.stored }
+        ensures stored { self.new.stored ≡ self.old.stored }
+        ensures others { OthersStay key self.old.links.items self.new.links.items }
     {
-        if let Some(Some(link)) = self.links.get_mut(key) {
-            if link.closing_since.is_none() {
-                link.closing_since = Some(now);
-                self.may_wait = true;
-                return true;
+        if let Some(slot) = self.links.get_mut(key) {
+            if let Some(link) = slot {
+                if link.closing_since.is_none() {
+                    link.closing_since = Some(now);
+                    self.may_wait = true;
+                    return true;
+                }
             }
         }
         false
@@ -462,10 +519,11 @@ impl<D: Disk> Connections<D> {
     /// A peer whose session ended so has what it is owed: it is told that nothing more will come,
     /// and once it sends no more its connection is closed. That of one that doesn't take what it is
     /// owed is closed at once.
-    #[tactic(auto, using(crate::proofs::Reaching::closed))]
+    #[tactic(auto, using(crate::proofs::Reaching::closed, crate::proofs::Linking::kept))]
     fn end_connection(&mut self, key: usize, end: PeerEnd)
         requires { lasts_at self.old.stored.station key ≡ false }
-        ensures { ReachesBy (IsClosing key) self.old.stored self.new.stored }
+        ensures moves { ReachesBy (IsClosing key) self.old.stored self.new.stored }
+        ensures others { OthersStay key self.old.links.items self.new.links.items }
     {
         if end == PeerEnd::Behind {
             self.remove(key);
@@ -474,18 +532,32 @@ impl<D: Disk> Connections<D> {
         if self.stored.is_owed(key) {
             return;
         }
-        if let Some(Some(link)) = self.links.get_mut(key) {
-            link.shut();
-            if link.channel != Channel::Open {
-                self.remove(key);
-            }
+        if self.shut(key) {
+            self.remove(key);
         }
     }
 
+    /// A peer is told that nothing more will come. Can it only take, or nothing at all?
+    #[tactic(auto, using(crate::proofs::Linking::kept))]
+    fn shut(&mut self, key: usize) -> bool
+        ensures stored { self.new.stored ≡ self.old.stored }
+        ensures others { OthersStay key self.old.links.items self.new.links.items }
+    {
+        if let Some(slot) = self.links.get_mut(key) {
+            if let Some(link) = slot {
+                link.shut();
+                return link.channel != Channel::Open;
+            }
+        }
+        false
+    }
+
     /// The connection of a peer is closed, and the peer leaves.
+    #[tactic(auto, using(crate::proofs::Linking::kept))]
     pub(crate) fn remove(&mut self, key: usize)
-        ensures { self.new.stored
+        ensures left { self.new.stored
             ≡ with_station (without_peer key self.old.stored.station) self.old.stored }
+        ensures others { OthersStay key self.old.links.items self.new.links.items }
     {
         self.stored.leave(key);
         if let Some(slot) = self.links.get_mut(key) {
@@ -570,14 +642,17 @@ impl<D: Disk> Connections<D> {
 
     /// A peer is sent what it is owed, and told that nothing more will come. What it has sent is
     /// read, since a connection that is closed before that loses what was sent last.
-    #[tactic(auto, using(crate::proofs::Reaching::moved))]
+    #[tactic(auto, using(crate::proofs::Streaming::sent))]
     fn send_last(&mut self, key: usize, now: Instant)
-        ensures { ReachesBy (IsSending key) self.old.stored self.new.stored }
+        ensures moves { ReachesBy (IsSending key) self.old.stored self.new.stored }
+        ensures others { OthersStay key self.old.links.items self.new.links.items }
     {
-        if let Some(Some(link)) = self.links.get_mut(key) {
-            link.send(&mut self.stored, key, now);
-            link.shut();
-            link.ignore(&mut self.piece);
+        if let Some(slot) = self.links.get_mut(key) {
+            if let Some(link) = slot {
+                link.send(&mut self.stored, key, now);
+                link.shut();
+                link.ignore(&mut self.piece);
+            }
         }
     }
 }

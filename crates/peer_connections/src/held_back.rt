@@ -17,7 +17,8 @@ impl<D: Disk> Connections<D> {
 
     /// A session is held back until then.
     pub(crate) fn note_hold(&mut self, until: Instant)
-        ensures { self.new.stored ≡ self.old.stored }
+        ensures stored { self.new.stored ≡ self.old.stored }
+        ensures links { self.new.links ≡ self.old.links }
     {
         let is_first = match self.read_on_at {
             None => true,
@@ -29,7 +30,8 @@ impl<D: Disk> Connections<D> {
     }
 
     /// A session that was held back for long enough is read on: its connection is reported once
-    /// more. In a round one is, the next one in the next round: others have their turn between them.
+    /// more. In a round one is, and the next one in the next round: others have their turn between
+    /// them.
     pub fn read_on(&mut self, registry: &Registry, now: Instant)
         ensures { self.new.stored ≡ self.old.stored }
     {

@@ -1,6 +1,7 @@
 //! Peers that were waited for too long.
 
 ghost use Rattle.peer_connections.specs.Allowed.{IsLate};
+ghost use Rattle.peer_connections.specs.Links.{OthersStay};
 ghost use Rattle.peer_connections.specs.Reaches.{ReachesBy};
 
 use crate::connections::Connections;
@@ -11,7 +12,7 @@ use std::time::{Duration, Instant};
 
 impl<D: Disk> Connections<D> {
     /// The session of a peer ends, or its connection is closed, if it was waited for too long.
-    #[tactic(auto, using(crate::proofs::Reaching::left_late))]
+    #[tactic(auto, using(crate::proofs::Reaching::left_late, crate::proofs::Linking::kept))]
     pub(crate) fn end_if_late<E: Eprint>(
         &mut self,
         rt: &E,
@@ -19,7 +20,8 @@ impl<D: Disk> Connections<D> {
         idle: Option<u64>,
         now: Instant,
     )
-        ensures { ReachesBy (IsLate key) self.old.stored self.new.stored }
+        ensures moves { ReachesBy (IsLate key) self.old.stored self.new.stored }
+        ensures others { OthersStay key self.old.links.items self.new.links.items }
     {
         match self.find_timeout(key, idle, now) {
             Timeout::NotYet => {}
@@ -31,9 +33,10 @@ impl<D: Disk> Connections<D> {
     }
 
     /// The session of a peer ends, of which nothing came for so many seconds, or that took nothing.
-    #[tactic(auto, using(crate::proofs::Reaching::left_late))]
+    #[tactic(auto, using(crate::proofs::Reaching::left_late, crate::proofs::Linking::kept))]
     fn end_late<E: Eprint>(&mut self, rt: &E, key: usize, what: &str, seconds: u64, now: Instant)
-        ensures { ReachesBy (IsLate key) self.old.stored self.new.stored }
+        ensures moves { ReachesBy (IsLate key) self.old.stored self.new.stored }
+        ensures others { OthersStay key self.old.links.items self.new.links.items }
     {
         let name = PeerName {
             node: self.stored.node(key),

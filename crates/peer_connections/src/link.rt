@@ -2,8 +2,7 @@
 
 ghost use Rattle.std.specs.Prelude.{◌≡◌, length};
 ghost use Rattle.station.specs.declared.sizes.TheConstants.{HEARD_OCTETS};
-ghost use Rattle.peer_connections.specs.Allowed.{IsHearing, IsSending};
-ghost use Rattle.peer_connections.specs.Reaches.{ReachesBy};
+ghost use Rattle.peer_connections.specs.Streams.{HearsStream, SendsStream};
 
 use crate::allowance::Allowance;
 use crate::calls::{read_ignored, read_with_room, write_once};
@@ -14,12 +13,13 @@ use crate::sizes::{FIRST_HOLD_MILLISECONDS, HOLD_MILLISECONDS};
 use connection_calls::{CALLS_A_TURN, Call};
 use journal::{Disk, DiskFault, StoredStation};
 use stamps::Stamp;
+use std::io::{Read, Write};
 use std::time::Instant;
 
-/// A connection, and how far its session has come.
+/// A connection over this stream, and how far its session has come.
 #[derive(Drop)]
-pub(crate) struct Link {
-    pub(crate) stream: PeerStream,
+pub(crate) struct Link<S> {
+    pub(crate) stream: S,
     /// The time of the round in which the peer came, where the clock told it.
     pub(crate) since: Option<Stamp>,
     /// When the peer came.
@@ -55,15 +55,15 @@ pub(crate) enum Channel {
     Failed,
 }
 
-impl Link {
+impl<S> Link<S> {
     /// The connection of a peer that has just come, in a round of this time, and makes so many rows
     /// a second at most.
     pub(crate) fn new(
-        stream: PeerStream,
+        stream: S,
         rows_a_second: u64,
         since: Option<Stamp>,
         now: Instant,
-    ) -> Link {
+    ) -> Link<S> {
         Link {
             stream,
             since,
@@ -80,13 +80,34 @@ impl Link {
         }
     }
 
+    /// The peer has taken octets.
+    fn note_taken(&mut self, now: Instant)
+        ensures { self.new.stream ≡ self.old.stream }
+    {
+        self.taken_at = now;
+        if self.closing_since.is_some() {
+            self.closing_since = Some(now);
+        }
+    }
+
+    /// Since when nothing has come from the peer, and it has taken nothing.
+    pub(crate) fn still_since(&self) -> Instant {
+        if self.taken_at > self.heard_at {
+            self.taken_at
+        } else {
+            self.heard_at
+        }
+    }
+}
+
+impl<S: Read> Link<S> {
     /// Reads from the peer, and has the station hear it: until there is no more for now, the peer
     /// isn't read from, or its turn is over. With `to_wait` it reads on behind a short read, too,
     /// until the connection waits: the peer sends no more, or has sent urgent data, ahead of which
     /// a read ends.
     /// Where no more of the session may be read yet, it is held back. Where the station's book
     /// can't be given room for a read, nothing more is read.
-    #[tactic(auto, using(crate::proofs::Reaching::moved))]
+    #[tactic(auto, using(crate::proofs::Streaming::heard_none))]
     pub(crate) fn hear<D: Disk>(
         &mut self,
         stored: &mut StoredStation<D>,
@@ -97,7 +118,8 @@ impl Link {
         now: Instant,
     ) -> Result<(), DiskFault>
         requires { length piece.old ≡ HEARD_OCTETS }
-        ensures { ReachesBy (IsHearing key) stored.old stored.new }
+        ensures { HearsStream key (S.remaining self.old.stream) (S.remaining self.new.stream)
+            stored.old stored.new }
     {
         self.is_unread = true;
         for _ in 0..CALLS_A_TURN {
@@ -137,47 +159,6 @@ impl Link {
         Ok(())
     }
 
-    /// Sends what the peer may be told, as far as its connection takes it for now.
-    #[tactic(auto, using(crate::proofs::Reaching::moved))]
-    pub(crate) fn send<D: Disk>(&mut self, stored: &mut StoredStation<D>, key: usize, now: Instant)
-        ensures { ReachesBy (IsSending key) stored.old stored.new }
-    {
-        for _ in 0..CALLS_A_TURN {
-            if stored.told_octets(key).is_empty() {
-                return;
-            }
-            match write_once(&mut self.stream, stored, key) {
-                Call::Passed(_) => self.note_taken(now),
-                Call::Interrupted => {}
-                Call::Waits => {
-                    self.is_full = true;
-                    return;
-                }
-                Call::Ended | Call::Failed => {
-                    self.channel = Channel::Failed;
-                    return;
-                }
-            }
-        }
-    }
-
-    /// The peer has taken octets.
-    fn note_taken(&mut self, now: Instant) {
-        self.taken_at = now;
-        if self.closing_since.is_some() {
-            self.closing_since = Some(now);
-        }
-    }
-
-    /// Since when nothing has come from the peer, and it has taken nothing.
-    pub(crate) fn still_since(&self) -> Instant {
-        if self.taken_at > self.heard_at {
-            self.taken_at
-        } else {
-            self.heard_at
-        }
-    }
-
     /// Reads what a peer sends whose session has ended, and has nobody hear it: until there is no
     /// more for now, or its turn is over.
     pub(crate) fn ignore(&mut self, piece: &mut [u8]) {
@@ -201,7 +182,36 @@ impl Link {
             }
         }
     }
+}
 
+impl<S: Write> Link<S> {
+    /// Sends what the peer may be told, as far as its connection takes it for now.
+    #[tactic(auto, using(crate::proofs::Streaming::sent_none))]
+    pub(crate) fn send<D: Disk>(&mut self, stored: &mut StoredStation<D>, key: usize, now: Instant)
+        ensures { SendsStream key (S.contents self.old.stream) (S.contents self.new.stream)
+            stored.old stored.new }
+    {
+        for _ in 0..CALLS_A_TURN {
+            if stored.told_octets(key).is_empty() {
+                return;
+            }
+            match write_once(&mut self.stream, stored, key) {
+                Call::Passed(_) => self.note_taken(now),
+                Call::Interrupted => {}
+                Call::Waits => {
+                    self.is_full = true;
+                    return;
+                }
+                Call::Ended | Call::Failed => {
+                    self.channel = Channel::Failed;
+                    return;
+                }
+            }
+        }
+    }
+}
+
+impl Link<PeerStream> {
     /// Tells the peer, once, that nothing more will come.
     pub(crate) fn shut(&mut self) {
         if !self.is_shut {

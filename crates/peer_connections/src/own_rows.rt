@@ -14,7 +14,8 @@ use std::time::Instant;
 impl<D: Disk> Connections<D> {
     /// If a peer that was heard is a dispenser, it is there.
     pub(crate) fn note_dispenser(&mut self, key: usize)
-        ensures { self.new.stored ≡ self.old.stored }
+        ensures stored { self.new.stored ≡ self.old.stored }
+        ensures links { self.new.links ≡ self.old.links }
     {
         if !self.upkeep.looks_for_lost() {
             return;

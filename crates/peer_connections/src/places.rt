@@ -3,6 +3,7 @@
 
 ghost use Rattle.std.specs.Prelude.{◌≡◌, IfOk, IfSome, None, Some, false, is_some, true};
 ghost use Rattle.peer_connections.specs.Allowed.{IsDismissal, IsWelcome, is_served_at};
+ghost use Rattle.peer_connections.specs.Links.{OthersStay};
 ghost use Rattle.peer_connections.specs.Reaches.{ReachesBy};
 
 use crate::connections::Connections;
@@ -72,10 +73,11 @@ impl<D: Disk> Connections<D> {
     }
 
     /// The peer that has come to this place has this connection.
-    #[tactic(auto, using(crate::proofs::Reaching::welcomed))]
+    #[tactic(auto, using(crate::proofs::Reaching::welcomed, crate::proofs::Linking::kept))]
     fn link(&mut self, registry: &Registry, key: usize, stream: PeerStream, now: Instant)
         requires { is_served_at self.old.stored.station key ≡ false }
-        ensures { ReachesBy IsDismissal self.old.stored self.new.stored }
+        ensures moves { ReachesBy IsDismissal self.old.stored self.new.stored }
+        ensures others { OthersStay key self.old.links.items self.new.links.items }
     {
         let mut stream = stream;
         stream.send_at_once();

@@ -3,9 +3,8 @@
 /// A peer gets so many seconds for its first whole message.
 pub const FIRST_MESSAGE_SECONDS: u64 = 10;
 
-/// A session of which no more may be read for now is read on after so many milliseconds. They are
-/// few, so that what has come meanwhile holds up no other session for long.
-pub const HOLD_MILLISECONDS: u64 = 50;
+/// A session of which no more may be read for now is read on after so many milliseconds.
+pub const HOLD_MILLISECONDS: u64 = 100;
 
 /// .. one that has brought no whole message, after so many.
 pub const FIRST_HOLD_MILLISECONDS: u64 = 10;

@@ -45,11 +45,13 @@ pub fn station_day<W: Write, T: Wait, R: Clock + Eprint, D: Disk>(
         connections.old.stored.station.book }
     requires off { HasNobodyOn connections.old.stored.station.book }
     ensures told { OnOk result (TellsDay connections.old.stored.station.gates
-        connections.old.stored.station.book server.old.port server.old.page_port form (W.contents (device_of writer.old))
-        (W.contents (device_of writer.new)) connections.new.stored.station) }
+        connections.old.stored.station.book server.old.port server.old.page_port form
+        (W.contents (device_of writer.old)) (W.contents (device_of writer.new))
+        connections.new.stored.station) }
     ensures front { TellsFront connections.old.stored.station.gates
-        connections.old.stored.station.book server.old.port server.old.page_port form (W.contents (device_of writer.old))
-        (W.contents (device_of writer.new)) connections.new.stored.station }
+        connections.old.stored.station.book server.old.port server.old.page_port form
+        (W.contents (device_of writer.old)) (W.contents (device_of writer.new))
+        connections.new.stored.station }
     ensures journal { JournalGoesOn connections.old.stored.journal
         connections.new.stored.journal }
 {
@@ -77,9 +79,8 @@ fn put_stored_report<W: Write, D: Disk>(
         (W.contents (device_of writer.new)) (report_in form connections.now.stored.station.book) }
     ensures untold { is_all_stored connections.now.stored ≡ false → writer.new ≡ writer.old }
 {
-    if connections.is_all_stored() {
-        put_book_report(alloc, connections.book(), form, writer, turns)
-    } else {
-        Ok(())
+    match connections.stored_book() {
+        Some(book) => put_book_report(alloc, book, form, writer, turns),
+        None => Ok(()),
     }
 }

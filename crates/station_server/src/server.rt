@@ -239,10 +239,11 @@ impl StationServer {
         let registry = self.poll.registry();
         if pages.accept_waiting(registry, self.rounds.waited()) {
             let sessions = list_sessions(self.alloc, connections, self.rounds.waited());
-            match (connections.read_unpaid(), sessions) {
-                (Ok(()), Ok(sessions)) => pages.answer_due(
+            let unpaid = connections.read_unpaid();
+            match (unpaid, sessions, connections.stored_book()) {
+                (Ok(()), Ok(sessions), Some(book)) => pages.answer_due(
                     registry,
-                    connections.book(),
+                    book,
                     connections.unpaid(),
                     connections.count(),
                     &sessions,

@@ -4,7 +4,8 @@ use Rattle.peer_connections.specs.Reaches.{ReachesBy}
 use Rattle.peer_connections.proofs.Reaching.{reaches_same, reaches_then, reaches_welcome}
 use Rattle.peer_connections.proofs.connections.Connections.find_place.Goals as goal
 use Rattle.peer_connections.proofs.connections.Connections.find_place.Goals.{in-Ok-None, in-Err}
-use Rattle.peer_connections.proofs.connections.Connections.find_place.Goals.{in_default, in_default-2}
+use Rattle.peer_connections.proofs.connections.Connections.find_place.Goals.{in_default}
+use Rattle.peer_connections.proofs.connections.Connections.find_place.Goals.{in_default-2}
 
 -- a peer has left, or wasn't to, before it is looked once more
 pub returns-then-has_left-clause-moves : goal.returns-then-has_left-clause-moves

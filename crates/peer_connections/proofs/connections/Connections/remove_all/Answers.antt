@@ -7,9 +7,9 @@ use Rattle.peer_connections.proofs.connections.Connections.remove_all.Goals as g
 pub loop-key-preserved : goal.loop-key-preserved
 loop-key-preserved g c = record {
   moves = reaches_then _ _ _ _ c.loop-key.invariant.moves
-      (reaches_any _ _ _ (reaches_late c.loop-key.key _ _ c.remove.ensures));
+      (reaches_any _ _ _ (reaches_late c.loop-key.key _ _ c.remove.ensures.left));
   gone = left_up_to c.loop-key.key _ _
-      (ap (λ (s : StoredState). s.station) c.remove.ensures) c.loop-key.invariant.gone;
+      (ap (λ (s : StoredState). s.station) c.remove.ensures.left) c.loop-key.invariant.gone;
 }
 
 pub returns-clause-left : goal.returns-clause-left

@@ -3,4 +3,5 @@ use Rattle.peer_connections.proofs.connections.Connections.welcome_at.Goals as g
 
 pub returns-in-Some : goal.returns-in-Some
 returns-in-Some g c =
-    reaches_then _ _ _ _ c.find_place_or_say.ensures.moves (reaches_welcome _ _ _ c.link.ensures)
+    reaches_then _ _ _ _ c.find_place_or_say.ensures.moves
+    (reaches_welcome _ _ _ c.link.ensures.moves)
