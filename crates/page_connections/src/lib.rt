@@ -7,6 +7,7 @@
 mod page_link;
 mod pages;
 mod piece;
+mod piece_reading;
 mod sizes;
 
 pub use pages::Pages;

@@ -1,18 +1,19 @@
 //! A connection of the page.
 
-ghost use Rattle.std.specs.Prelude.{◌≡◌, OnOk};
+ghost use Rattle.std.specs.Prelude.{◌≡◌, [], OnOk};
 ghost use Rattle.site_page.specs.Connections.{AreAnswered};
 ghost use Rattle.page_connections.specs.Pages.{calls_of};
+ghost use Rattle.page_connections.specs.Pieces.{ReadsOn, unheard_of};
 
 use crate::piece::Piece;
-use crate::sizes::PAGE_SECONDS;
+use crate::sizes::{IGNORED_OCTETS, PAGE_SECONDS};
 use connection_calls::{CALLS_A_TURN, Call};
 use mio::net::TcpStream;
 use site_base::NoMemory;
 use site_page::{Page, PageConnection};
 use std::alloc::Global;
 use std::hash::RandomState;
-use std::io::Write;
+use std::io::{Read, Write};
 use std::net::Shutdown;
 use std::time::Instant;
 
@@ -68,7 +69,9 @@ impl PageLink {
     /// Has its turn: it sends what it owes, and answers what its peer asks by this page. After
     /// `NoMemory` it is to be closed.
     pub(crate) fn take_turn(&mut self, page: &Page, now: Instant) -> Result<Progress, NoMemory>
-        ensures { OnOk result (AreAnswered page.now (calls_of self.old) (calls_of self.new)) }
+        ensures answers { OnOk result
+            (AreAnswered page.now (calls_of self.old) (calls_of self.new)) }
+        ensures reads { OnOk result (ReadsOn self.old self.new) }
     {
         for _ in 0..CALLS_A_TURN {
             match self.go_on(page, now)? {
@@ -80,8 +83,11 @@ impl PageLink {
     }
 
     /// Takes one step.
+    #[tactic(auto, using(crate::proofs::Reading::read_on))]
     fn go_on(&mut self, page: &Page, now: Instant) -> Result<Progress, NoMemory>
-        ensures { OnOk result (AreAnswered page.now (calls_of self.old) (calls_of self.new)) }
+        ensures answers { OnOk result
+            (AreAnswered page.now (calls_of self.old) (calls_of self.new)) }
+        ensures reads { OnOk result (ReadsOn self.old self.new) }
     {
         if self.connection.owes() {
             return Ok(self.send(now));
@@ -102,8 +108,10 @@ impl PageLink {
     }
 
     /// Sends once of what it owes.
+    #[tactic(auto, using(crate::proofs::Reading::read_on))]
     fn send(&mut self, now: Instant) -> Progress
-        ensures { calls_of self.new ≡ calls_of self.old }
+        ensures calls { calls_of self.new ≡ calls_of self.old }
+        ensures reads { ReadsOn self.old self.new }
     {
         match self.stream.write(self.connection.owed()) {
             Ok(0) => Progress::Over,
@@ -118,23 +126,37 @@ impl PageLink {
         }
     }
 
-    /// Reads once of what its peer sends.
+    /// Reads once of what its peer sends, where each octet is heard.
     fn read(&mut self) -> Progress
-        ensures { calls_of self.new ≡ calls_of self.old }
+        requires { unheard_of self.old.piece ≡ [] }
+        ensures calls { calls_of self.new ≡ calls_of self.old }
+        ensures reads { ReadsOn self.old self.new }
     {
         progress_after(self.piece.read_from(&mut self.stream))
     }
 
+    #[tactic(auto, using(crate::proofs::Reading::read_on))]
     /// Tells the peer, once, that nothing more will come, and passes over what it still sends: an
     /// answer may be lost where a connection is closed before that is read.
     fn end(&mut self) -> Progress
-        ensures { calls_of self.new ≡ calls_of self.old }
+        ensures calls { calls_of self.new ≡ calls_of self.old }
+        ensures reads { ReadsOn self.old self.new }
     {
         if !self.is_shut {
             self.is_shut = true;
             let _ = self.stream.shutdown(Shutdown::Write);
         }
-        progress_after(self.piece.read_from(&mut self.stream))
+        progress_after(read_ignored(&mut self.stream))
+    }
+}
+
+/// Reads once from a connection what nobody hears.
+fn read_ignored<R: Read>(reader: &mut R) -> Call {
+    let mut ignored = [0; IGNORED_OCTETS];
+    match reader.read(&mut ignored) {
+        Ok(0) => Call::Ended,
+        Ok(n) => Call::Passed(n),
+        Err(error) => Call::of_error(&error),
     }
 }
 

@@ -5,3 +5,6 @@ pub const PAGE_CONNECTIONS: usize = 64;
 
 /// A peer of the page has so many seconds, behind an answer, to ask anew and take the next one.
 pub const PAGE_SECONDS: u64 = 10;
+
+/// Of what a peer of the page sends, and nobody hears, so many octets are read at once, at most.
+pub const IGNORED_OCTETS: usize = 1_024;
