@@ -9,17 +9,21 @@ use std::alloc::{AllocError, AllocFailed};
 use thiserror::Error;
 
 /// The first fault of a stream of octets, which ends it.
-#[derive(Clone, Copy, Debug, PartialEq, Eq)]
+#[derive(Clone, Copy, Debug, PartialEq, Eq, Error)]
 pub enum GrammarFault {
     /// The code octet isn't 00.
+    #[error("the code isn't 00")]
     BadCode,
     /// The three bits of the kind are 101 or 110.
+    #[error("there is no such kind")]
     BadKind,
     /// The body has not 2 to 1,024 octets, or its address is empty, above 8 octets or above the
     /// body.
+    #[error("the body or its address has a wrong length")]
     BadLength,
     /// An identifier isn't above the one before it, or an item's length is 255 or runs over the
     /// end.
+    #[error("an item is out of order or has a wrong length")]
     BadItem,
 }
 
@@ -38,7 +42,8 @@ impl GrammarFault {
 }
 
 /// The fault that ended a stream, and what the faulty header says of the way back.
-#[derive(Clone, Copy, Debug, PartialEq, Eq)]
+#[derive(Clone, Copy, Debug, PartialEq, Eq, Error)]
+#[error("{fault}")]
 pub struct StreamFault {
     /// The first fault.
     pub fault: GrammarFault,

@@ -36,7 +36,7 @@ use Rattle.chapters.proofs.Lists.{all_both}
 use Rattle.chapters.proofs.Octets.{plain_both}
 use Rattle.chapters.proofs.Reading.{read_both}
 use Rattle.chapters.proofs.Requests.{events_both}
-use Rattle.chapters.proofs.Times.{request_tells_none, rise_then, times_both}
+use Rattle.chapters.proofs.Times.{and_left, and_right, request_tells_none, rise_then, times_both}
 
 -- nothing more
 pub writes_nothing : (chapters : ℕ) (r : HistoryRead) (e : EndState) (text : List ℕ)
@@ -89,14 +89,6 @@ writes_then said more rows others chapters r old mid new a b c one two = record 
 }
 
 -- ---- a stamp
-
-and_left : (a b : Bool) → (a && b) ≡ true → a ≡ true
-and_left true b both = refl
-and_left false b both = absurd cc
-
-and_right : (a b : Bool) → (a && b) ≡ true → b ≡ true
-and_right true b both = both
-and_right false b both = absurd cc
 
 not_feed : (form octet : ℕ) → not (form == 10) ≡ true → is_formed form octet ≡ true
     → not (octet == 10) ≡ true

@@ -9,21 +9,28 @@ use site_base::NoMemory;
 use std::alloc::AllocError;
 use std::io;
 use std::io::ErrorKind;
+use thiserror::Error;
 
 /// Why a history's folder isn't there to be used.
-#[derive(Clone, Copy, Debug, PartialEq, Eq)]
+#[derive(Clone, Copy, Debug, PartialEq, Eq, Error)]
 pub enum FileFault {
     /// An allocation failed.
+    #[error("out of memory")]
     NoMemory,
     /// The folder or a file in it can't be opened, or is none.
+    #[error("it can't be read")]
     Unread,
     /// Another process has it, or this one prints into one of its files.
+    #[error("it is in use")]
     InUse,
     /// This process prints its faults into one of its files, so this one isn't printed.
+    #[error("it is in use, for faults")]
     Untold,
     /// It can't be made for good.
+    #[error("it can't be written")]
     Unwritten,
     /// There is no chapter of this number, while there is one of a greater number.
+    #[error("chapter {0} is missing")]
     Missing(u64),
 }
 

@@ -7,13 +7,16 @@ ghost use Rattle.journal.specs.Disks.{OfFile, OfFiles, Reads, ReadsClosed, Renew
 
 use site_base::NoMemory;
 use std::alloc::Global;
+use thiserror::Error;
 
 /// Why a call of a disk did nothing, or not all that it should.
-#[derive(Clone, Copy, Debug, PartialEq, Eq)]
+#[derive(Clone, Copy, Debug, PartialEq, Eq, Error)]
 pub enum DiskFault {
     /// An allocation failed.
+    #[error("out of memory")]
     NoMemory,
     /// The disk failed, or takes no more.
+    #[error("the disk failed, or takes no more")]
     Failed,
 }
 

@@ -4,13 +4,16 @@ ghost use Rattle.std.specs.Prelude.{◌≡◌};
 
 use std::alloc::Global;
 use std::io::{Read, Write};
+use thiserror::Error;
 
 /// Why a listener gave no connection.
-#[derive(Clone, Copy, Debug, PartialEq, Eq)]
+#[derive(Clone, Copy, Debug, PartialEq, Eq, Error)]
 pub enum NoConnection {
     /// An allocation failed.
+    #[error("out of memory")]
     NoMemory,
     /// The listener failed.
+    #[error("the listener failed")]
     Failed,
 }
 

@@ -4,6 +4,7 @@ use crate::number::split_at_octet;
 use crate::words::places::word_behind;
 use crate::words::splitting::count_words;
 use crate::words::wrong_word::{Wanted, WrongWord};
+use std::error::Error;
 use std::fmt;
 
 /// So many octets of a word are quoted.
@@ -33,6 +34,8 @@ impl<'a> fmt::Display for WordFault<'a> {
         }
     }
 }
+
+impl<'a> Error for WordFault<'a> {}
 
 /// Is the wrong word one that should stand before the line's comma, and doesn't?
 fn is_before_comma(line: &[u8], wrong: &WrongWord) -> bool {

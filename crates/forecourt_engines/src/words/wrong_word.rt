@@ -1,6 +1,7 @@
 //! Which word of a line is wrong, and what could stand there.
 
 use std::fmt;
+use thiserror::Error;
 
 /// What a word of a line could be.
 #[derive(Clone, Copy, Debug, PartialEq, Eq)]
@@ -43,11 +44,13 @@ pub struct WrongWord {
 }
 
 /// Why a line in words asks for nothing.
-#[derive(Clone, Copy, Debug, PartialEq, Eq)]
+#[derive(Clone, Copy, Debug, PartialEq, Eq, Error)]
 pub enum LineFault {
     /// A word can't stand there.
+    #[error("word {}: {}", .0.place, .0.wanted)]
     Wrong(WrongWord),
     /// An allocation failed.
+    #[error("out of memory")]
     NoMemory,
 }
 
