@@ -29,7 +29,7 @@ abbrev pub IsSpelled : Actor × Event → Type 0
 IsSpelled e = AsksFor 0 e.0 e.1 (request_by 0 e.0 (way_to e.1))
 
 -- whatever token it was told with
-told_again : (m : Telegram) (actor : Actor) (event : Event) → IsMessage m
+pub told_again : (m : Telegram) (actor : Actor) (event : Event) → IsMessage m
     → request_at m ≡ Ok (actor, event) → IsSpelled (actor, event)
 unfolding request_at
 told_again m actor event valid is =

@@ -138,14 +138,14 @@ stored_rows_are_found_again site m n config rows b legal same tells goes (inr ba
 -- ---- what is told
 
 -- where something may be told, each row is stored
-told_stored : (s : StoredState) (key : ℕ) → (told_at s key ≡ [] → ⊥) → is_all_stored s ≡ true
+pub told_stored : (s : StoredState) (key : ℕ) → (told_at s key ≡ [] → ⊥) → is_all_stored s ≡ true
 told_stored s key some = by_test (is_all_stored s) some
   where
     by_test : (t : Bool) → ((if t then owed_at s.station key else []) ≡ [] → ⊥) → t ≡ true
     by_test true some = refl
     by_test false some = absurd (some refl)
 
-holds_all : (rows : List Row) (j : JournalState) (f : DiskFile) → IsJournalOf rows j
+pub holds_all : (rows : List Row) (j : JournalState) (f : DiskFile) → IsJournalOf rows j
     → (j.stored == length rows) ≡ true → j.file ≡ Some f
     → HoldsRows j.site (kept_rows rows) j.failed j.end f
 holds_all rows j f is all there =

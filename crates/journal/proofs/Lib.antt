@@ -5,6 +5,8 @@ pub mod Storing
 pub mod Ending
 pub mod Lives
 pub mod JournalLaws
+pub mod Steps
+pub mod Spelling
 pub mod Recovering
 pub mod SigningOff
 pub mod Reopening

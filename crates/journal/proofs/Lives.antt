@@ -80,7 +80,7 @@ begins_none : (xs : List ℕ) → BeginsWith [] xs
 begins_none xs = record { rest = xs; parts = refl }
 
 -- what goes on from a front that ends with a line still does behind one step more
-goes_on_step : (at : Moment) → unfinished at.front ≡ [] → (m n : Moment) → GoesOn at m
+pub goes_on_step : (at : Moment) → unfinished at.front ≡ [] → (m n : Moment) → GoesOn at m
     → KeepsLines m n → GoesOn at n
 goes_on_step at whole m n (inl one) keeps =
     goes_then at (record m { front = at.front }) n

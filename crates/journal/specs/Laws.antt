@@ -1,23 +1,28 @@
 -- What holds of every journal: what is found again after a crash, and what is never refused.
-use Rattle.std.specs.Prelude.{◌≡◌, ℕ, List, [], ◌++◌, Option, Some, false, take}
+use Rattle.std.specs.Prelude.{◌≡◌, ℕ, List, [], ◌∷◌, ◌++◌, IfSome, Option, Some, false, take, true}
+use Rattle.std.specs.Prelude.{⊤}
 use Rattle.std.specs.List.{AllByRecursion}
+use Rattle.site_base.specs.declared.limits.TheConstants.{POINTS, TILLS}
 use Rattle.site_base.specs.declared.row.Row.{Row}
 use Rattle.site_base.specs.Configured.{Configured}
+use Rattle.site_base.specs.Ranges.{is_between}
+use Rattle.app_message.specs.Telegram.{AreOctets}
 use Rattle.written_site.specs.SiteRun.{IsLegal, events_of}
 use Rattle.written_site.specs.SiteState.{opening}
 use Rattle.kept_history.specs.KeptRows.{kept_rows}
 use Rattle.site_book.specs.Book.{Book}
 use Rattle.station.specs.Gates.{GateState}
-use Rattle.station.specs.Runs.{Move, after, opening_station}
+use Rattle.station.specs.Runs.{EndsRelease, Loses, Move, Says, after, opening_station}
 use Rattle.chapters.specs.ChapterReading.{HistoryRead, nothing_read, read_from}
 use Rattle.chapters.specs.History.{rows_asked}
 use Rattle.chapters.specs.Lines.{whole_lines}
-use Rattle.chapters.specs.RowText.{IsSent}
+use Rattle.chapters.specs.RowText.{CanBeSpelled, IsSent}
 use Rattle.chapters.specs.Times.{Rise, times_in}
 use Rattle.journal.specs.Disks.{DiskFile, GoesOn, Grows, Moment, moment_of, shown_of}
 use Rattle.journal.specs.Lives.{IsLife, end_of}
 use Rattle.journal.specs.Readings.{IsRead, TellsNothing, TellsWhole, texts_of}
 use Rattle.journal.specs.Stored.{GrowsByLines, IsJournalOf, IsStored, JournalState, StoredState}
+use Rattle.journal.specs.Steps.{AreSteps, Step, after_steps, sent_with}
 use Rattle.journal.specs.Stored.{told_at}
 
 -- a book begins with these rows, and has maybe more behind them
@@ -42,6 +47,21 @@ ToldRowsAreFoundAgain = (s : StoredState) (j : JournalState) (f : DiskFile) (key
     → (told_at s key ≡ [] → ⊥) → IsLife (moment_of f) life
     → b.config ≡ s.station.book.config → IsRead j.site (end_of (moment_of f) life) b
     → BeginsWithRows (kept_rows s.station.book.rows) b
+
+-- these rows are the first that a book keeps
+pub record KeepsFirst (rows : List Row) (b : Book) : Type 0 where
+  pub more : List Row
+  pub parts : kept_rows b.rows ≡ rows ++ more
+
+-- What was sent is never taken back. Take a step with which a peer is sent something, and any steps
+-- from there on: moves, calls of the journal, crashes and starts. All rows that the station had
+-- when it sent that, but those of reads, are then the first ones that its book keeps. So any start
+-- finds them.
+abbrev pub SentRowsStay : Type 0
+SentRowsStay = (s : StoredState) (j : JournalState) (f : DiskFile) (key : ℕ) (step : Step)
+    (steps : List Step) → IsStored s → s.journal ≡ Some j → j.file ≡ Some f
+    → (sent_with key step s ≡ [] → ⊥) → AreSteps (step ∷ steps) s
+    → KeepsFirst (kept_rows s.station.book.rows) (after_steps (step ∷ steps) s).station.book
 
 -- the times of this text rise behind the last one that the chapters tell
 pub record RisesBehind (site : List ℕ) (m : Moment) (text : List ℕ) : Type 0 where
@@ -82,3 +102,21 @@ abbrev pub StationsRowsAreSent : Type 0
 StationsRowsAreSent = (g : GateState) (b : Book) (ms : List Move)
     → AllByRecursion IsSent b.rows
     → AllByRecursion IsSent (after ms (opening_station g b)).book.rows
+
+-- what is heard are octets, and the station itself acts for a point that there may be
+abbrev pub IsMeant : Move → Type 0
+IsMeant (Says memory k octets) = AreOctets octets
+IsMeant (EndsRelease on off p) = is_between 1 POINTS p ≡ true
+IsMeant (Loses memory p) = is_between 1 POINTS p ≡ true
+IsMeant m = ⊤
+
+-- .. and the house till is one that there may be, if there is one
+abbrev pub HasHouse : GateState → Type 0
+HasHouse g = IfSome g.house (λ t. is_between 1 TILLS t ≡ true)
+
+-- Whatever such moves come, each row of a station can be spelled. So no row is in the way of those
+-- behind it.
+abbrev pub StationsRowsCanBeSpelled : Type 0
+StationsRowsCanBeSpelled = (g : GateState) (b : Book) (ms : List Move) → HasHouse g
+    → AllByRecursion IsMeant ms → CanBeSpelled b.rows
+    → CanBeSpelled (after ms (opening_station g b)).book.rows

@@ -7,4 +7,5 @@ pub mod ChapterEnds
 pub mod Recovering
 pub mod Opening
 pub mod Lives
+pub mod Steps
 pub mod Laws

@@ -1,7 +1,8 @@
 //! The laws of a journal. Each is a function whose contract is the law.
 
 ghost use Rattle.journal.specs.Laws.{BeginningsAreRead, HistoriesAreMadeAgain};
-ghost use Rattle.journal.specs.Laws.{StampsRise, StationsRowsAreSent};
+ghost use Rattle.journal.specs.Laws.{SentRowsStay, StampsRise, StationsRowsAreSent};
+ghost use Rattle.journal.specs.Laws.{StationsRowsCanBeSpelled};
 ghost use Rattle.journal.specs.Laws.{StoredRowsAreFoundAgain, ToldRowsAreFoundAgain};
 ghost use Rattle.journal.specs.Lives.{CallsAreSteps};
 
@@ -15,6 +16,12 @@ pub fn stored_rows_are_found_again()
 /// comes: any list of stores, ends of chapters, crashes and starts.
 pub fn told_rows_are_found_again()
     ensures { ToldRowsAreFoundAgain }
+{}
+
+/// While a peer is sent something, each row of the station but those of reads is one that its book
+/// keeps from then on, whatever comes: moves, stores, crashes and starts.
+pub fn sent_rows_stay()
+    ensures { SentRowsStay }
 {}
 
 /// Each store, each end of a chapter and each start is a step of a history's life, whole or cut off
@@ -43,4 +50,9 @@ pub fn histories_are_made_again()
 /// Each row of a station is one that its actor sends.
 pub fn stations_rows_are_sent()
     ensures { StationsRowsAreSent }
+{}
+
+/// Each row of a station can be spelled.
+pub fn stations_rows_can_be_spelled()
+    ensures { StationsRowsCanBeSpelled }
 {}

@@ -255,13 +255,13 @@ unheard k (Says memory j octets) s other =
     ap (λ b. if b then (if is_read_at s k then octets else []) else []) other
 unheard k m s other = refl
 
-untaken : (k : ℕ) (m : Move) (s : StationState) → (key_of m == k) ≡ false
+pub untaken : (k : ℕ) (m : Move) (s : StationState) → (key_of m == k) ≡ false
     → taken_with k m s ≡ []
 untaken k (Takes j n) s other = ap (λ b. if b then take n (owed_at s k) else []) other
 untaken k m s other = refl
 
 -- nobody else gets the key of a peer
-key_taken : (k : ℕ) (door : Option ℕ) (s : StationState) (x : Session)
+pub key_taken : (k : ℕ) (door : Option ℕ) (s : StationState) (x : Session)
     → peer_at s.peers k ≡ Some x → arrive k door s ≡ s
 key_taken k door s x there = by_door door
   where

@@ -58,7 +58,7 @@ rest_few zero s within = omega arith
 rest_few (suc n) s within = grind (arith, front_eight, short_few, rest_few n)
 
 -- a piece leaves few octets, whatever was held
-left_few : (h : Held) (piece : List ℕ) → length (fed_by h piece).rest ≤ 1031
+pub left_few : (h : Held) (piece : List ℕ) → length (fed_by h piece).rest ≤ 1031
 left_few h piece = grind (arith, rest_few)
 
 abbrev HoldsFew : Session → Type 0

@@ -22,3 +22,7 @@ pub mod DoorPlaces
 pub mod OwnRows
 pub mod Costs
 pub mod Endings
+pub mod Staying
+pub mod Pieces
+pub mod Said
+pub mod Owing

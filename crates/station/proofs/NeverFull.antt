@@ -33,7 +33,7 @@ walk_few zero s = omega arith
 walk_few (suc n) s = grind (arith, front_eight, walk_few n)
 
 -- a piece brings no more messages than have room
-fed_few : (h : Held) (piece : List ℕ) → length h.rest ≤ 1031 → length piece ≤ HEARD_OCTETS
+pub fed_few : (h : Held) (piece : List ℕ) → length h.rest ≤ 1031 → length piece ≤ HEARD_OCTETS
     → length (fed_by h piece).messages ≤ PIECE_ROWS
 fed_few h piece held few = by h.fault
   where

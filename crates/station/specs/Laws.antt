@@ -35,6 +35,17 @@ EachPeerIsToldItsStory = (s : StationState) (k : ℕ) (door : Option (List ℕ))
     × IsTold s.book.config s.book.rows (after ms start).book.rows (heard_of k ms start)
     (text_to k ms start) x.talk.on x.end
 
+-- octets that begin with these
+pub record Begins (front octets : List ℕ) : Type 0 where
+  pub rest : List ℕ
+  pub parts : octets ≡ front ++ rest
+
+-- What a peer was told stays: with more moves, while it stays, its text only gets more behind it.
+-- So it is where its session has ended, too.
+abbrev pub WhatWasToldStays : Type 0
+WhatWasToldStays = (s : StationState) (k : ℕ) (ms more : List Move) → Stays k more
+    → Begins (text_to k ms s) (text_to k (ms ++ more) s)
+
 -- The book's rows are one history, whatever moves come at a station of a book whose rows are one:
 -- moves only add rows, and each reply is the written step's at the site that the rows before it led
 -- to.

@@ -13,6 +13,7 @@ pub mod Places
 pub mod Reads
 pub mod Room
 pub mod Runs
+pub mod Owing
 pub mod Stories
 pub mod Adding
 pub mod Laws

@@ -1,6 +1,6 @@
 -- Lists of moves, from an opening station on: who sent what, and what was told.
 use Rattle.std.specs.Prelude.{◌≡◌, ℕ, ◌==◌, Bool, true, false, nat_lt, List, [], ◌∷◌, ◌++◌, take}
-use Rattle.std.specs.Prelude.{Option, Some, None, if◌then◌else◌, slice_get}
+use Rattle.std.specs.Prelude.{Option, Some, None, if◌then◌else◌, slice_get, ⊤}
 use Rattle.site_book.specs.Book.{Book}
 use Rattle.station.specs.declared.sizes.TheConstants.{FREE_PLACES}
 use Rattle.station.specs.Moves.{StationState, with_arrival, with_end, with_octets, with_taken}
@@ -53,6 +53,12 @@ after_move Forgets s = without_old_rows s
 abbrev pub after : List Move → StationState → StationState
 after [] s = s
 after (m ∷ ms) s = after ms (after_move m s)
+
+-- this holds of the octets that come with each of these moves
+abbrev pub AllSay : (List ℕ → Type 0) → List Move → Type 0
+AllSay P [] = ⊤
+AllSay P (Says memory k octets ∷ ms) = P octets × AllSay P ms
+AllSay P (m ∷ ms) = AllSay P ms
 
 -- a station with these gates at this book, without peers
 abbrev pub opening_station : GateState → Book → StationState

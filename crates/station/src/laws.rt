@@ -4,15 +4,26 @@ ghost use Rattle.station.specs.Laws.{EachPeerIsToldItsStory, EndsLeaveTheirTill}
 ghost use Rattle.station.specs.Laws.{PeersLeaveTheirTill, RequestsAreAskedInOrder};
 ghost use Rattle.station.specs.Laws.{RowsAreOneHistory, StandingNoticesAreChanges};
 ghost use Rattle.station.specs.Laws.{StandingNoticesTellWhatWasMissed, StationsAreNeverFull};
-ghost use Rattle.station.specs.Laws.{TillsHaveSessions};
+ghost use Rattle.station.specs.Laws.{TillsHaveSessions, WhatWasToldStays};
 ghost use Rattle.station.specs.Neighbours.{DoorsStayOpen, EndsSpareTillsOfOthers};
 ghost use Rattle.station.specs.Neighbours.{RequestsCostOctets, RowsComeThroughTheirDoor};
 ghost use Rattle.station.specs.Neighbours.{TheStationActsAloneSo};
+ghost use Rattle.station.specs.Owing.{OwedIsBounded};
 
 /// A peer is told its story: the session text of what was heard of it, with the answers that its
 /// requests were given, and between the notices of its point, each in its place.
 pub fn each_peer_is_told_its_story()
     ensures { EachPeerIsToldItsStory }
+{}
+
+/// What a peer was told stays the front of its text, whatever comes until it leaves.
+pub fn what_was_told_stays()
+    ensures { WhatWasToldStays }
+{}
+
+/// What a peer is owed is bounded, whatever it sends, and whether or not it takes anything.
+pub fn owed_is_bounded()
+    ensures { OwedIsBounded }
 {}
 
 /// The rows of all peers are one history.
