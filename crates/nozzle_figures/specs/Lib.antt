@@ -1,0 +1,2 @@
+pub mod NozzleMoves
+pub mod Laws

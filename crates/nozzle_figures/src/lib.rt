@@ -1,0 +1,7 @@
+//! What was counted at each nozzle: readings, what flowed, what was sold and drawn of it, and what a
+//! replaced meter jumped.
+#![tactic(auto)]
+
+mod laws;
+
+pub use laws::each_nozzle_adds_up;
