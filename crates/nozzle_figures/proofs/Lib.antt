@@ -1,1 +1,2 @@
 pub mod NozzleMoves
+pub mod ProductSums

@@ -26,7 +26,7 @@ use Rattle.meters.proofs.Weights.{accepted_above}
 use Rattle.written_site.specs.MeterLaws.{is_its}
 use Rattle.written_site.specs.SiteChecks.{Passed, first_refusal, flow_since, own_event}
 use Rattle.written_site.specs.SiteChecks.{put_back_at}
-use Rattle.written_site.specs.SiteRun.{events_of}
+use Rattle.written_site.specs.SiteRun.{events_of, site_of_rows}
 use Rattle.written_site.specs.SiteState.{SiteState, facts_in, facts_of}
 use Rattle.written_site.specs.SiteStep.{accepted_site, nozzles_after, points_after, site_after}
 use Rattle.written_site.specs.SiteStep.{step_by, with_event}
@@ -44,14 +44,14 @@ use Rattle.written_site.proofs.SoundTables.{itself, row_of-same, same}
 use Rattle.written_site.proofs.SoundReports.{flow_is_out, hung_up_is_out}
 use Rattle.written_site.proofs.SoundReports.{reading_elsewhere}
 use Rattle.written_site.proofs.SoundSold.{own_point}
-use Rattle.nozzle_figures.specs.Laws.{AddsUp, EachNozzleAddsUp}
+use Rattle.nozzle_figures.specs.Laws.{EachNozzleAddsUp}
 use Rattle.nozzle_figures.specs.NozzleMoves.{by_nozzle, drawing, falling, flowing, is_of_nozzle}
 use Rattle.nozzle_figures.specs.NozzleMoves.{is_out, of_accepted, rising, running_by_nozzle}
-use Rattle.nozzle_figures.specs.NozzleMoves.{selling}
+use Rattle.nozzle_figures.specs.NozzleMoves.{selling, sum_over}
 
 -- ---- an event at its nozzle
 
-none_of : (b : Bool) → ◌≡◌ {A = ℕ} (if b then 0 else 0) 0
+pub none_of : (b : Bool) → ◌≡◌ {A = ℕ} (if b then 0 else 0) 0
 none_of true = refl
 none_of false = refl
 
@@ -175,7 +175,7 @@ other_volumes p n s a e facts away =
       stays,
     )
 
-volumes_step : (p n : ℕ) (s : SiteState) (a : Actor) (e : Event) → Sound s → IsTaken s e
+pub volumes_step : (p n : ℕ) (s : SiteState) (a : Actor) (e : Event) → Sound s → IsTaken s e
     → Passed s a e
     → flowing p n s e + running_by_nozzle p n s
     ≡ selling p n s e + drawing p n s e + running_by_nozzle p n (accepted_site s a e)
@@ -212,7 +212,7 @@ read_changed p n q m reading change xs keeps has reads = by_test (is_its p n q m
         (nozzle_of-other q m p n change xs is keeps)
 
 -- a report of the nozzle that is out
-reported : (p n q m : ℕ) (s : SiteState) (e : Event) (event : PointEvent) (v : ℕ)
+pub reported : (p n q m : ℕ) (s : SiteState) (e : Event) (event : PointEvent) (v : ℕ)
     → own_event s e ≡ Some (q, event) → nozzle_out (facts_of s q) ≡ m
     → by_nozzle p n s e v ≡ (if is_its p n q m then v else 0)
 reported p n q m s e event v own out =
@@ -264,7 +264,7 @@ jump_up : (b : Bool) (last reading now flows : ℕ) → now ≡ (if b then readi
 jump_up true last reading now flows is none = omega (arith, is, none)
 jump_up false last reading now flows is none = omega (arith, is, none)
 
-nothing_by : (p n : ℕ) (s : SiteState) (e : Event) → by_nozzle p n s e 0 ≡ 0
+pub nothing_by : (p n : ℕ) (s : SiteState) (e : Event) → by_nozzle p n s e 0 ≡ 0
 nothing_by p n s e = none_of (is_of_nozzle p n s (own_event s e))
 
 -- a meter takes the place of another
@@ -306,47 +306,71 @@ counter_step p n s e sound taken has =
 
 -- ---- rows
 
--- one row, at this site
-record Moves (p n : ℕ) (s : SiteState) (r : Row) : Type 0 where
+-- one row's volumes, at this site
+volumes_row : (p n : ℕ) (s : SiteState) (r : Row) → Sound s → InRange r.event
+    → of_accepted (flowing p n) s r + running_by_nozzle p n s
+    ≡ of_accepted (selling p n) s r + of_accepted (drawing p n) s r
+    + running_by_nozzle p n (site_after s r.actor r.event)
+volumes_row p n s r sound range = by_refusal (first_refusal s r.actor r.event) refl
+  where
+    by_refusal : (o : Option Refusal) → first_refusal s r.actor r.event ≡ o
+        → of_accepted (flowing p n) s r + running_by_nozzle p n s
+        ≡ of_accepted (selling p n) s r + of_accepted (drawing p n) s r
+        + running_by_nozzle p n (site_after s r.actor r.event)
+    by_refusal (Some refusal) is = rw is (omega arith)
+    by_refusal None is =
+        let passes = passed s r.actor r.event is in
+        rw is
+        (volumes_step p n s r.actor r.event sound
+        (taken_when_passed s r.actor r.event range passes) passes)
+
+pub volumes_over : (p n : ℕ) (s : SiteState) (rows : List Row) → Sound s
+    → AreInRange (events_of rows)
+    → sum_over (flowing p n) s rows + running_by_nozzle p n s
+    ≡ sum_over (selling p n) s rows + sum_over (drawing p n) s rows
+    + running_by_nozzle p n (site_of_rows s rows)
+volumes_over p n s [] sound range = omega arith
+volumes_over p n s (r ∷ rows) sound range =
+    let one = volumes_row p n s r sound range.0 in
+    let rest = volumes_over p n (site_after s r.actor r.event) rows
+    (sound_after s r.actor r.event range.0 sound) range.1 in
+    omega (arith, one, rest)
+
+-- its counter
+record Counts (p n : ℕ) (s : SiteState) (r : Row) : Type 0 where
   pub counter : reading_of p n (site_after s r.actor r.event).nozzles
       + of_accepted (falling p n) s r
       ≡ reading_of p n s.nozzles + of_accepted (flowing p n) s r + of_accepted (rising p n) s r
-  pub volumes : of_accepted (flowing p n) s r + running_by_nozzle p n s
-      ≡ of_accepted (selling p n) s r + of_accepted (drawing p n) s r
-      + running_by_nozzle p n (site_after s r.actor r.event)
   pub there : has_nozzle p n (site_after s r.actor r.event).nozzles ≡ true
 
-moves_row : (p n : ℕ) (s : SiteState) (r : Row) → Sound s → InRange r.event
-    → has_nozzle p n s.nozzles ≡ true → Moves p n s r
-moves_row p n s r sound range has =
+counts_row : (p n : ℕ) (s : SiteState) (r : Row) → Sound s → InRange r.event
+    → has_nozzle p n s.nozzles ≡ true → Counts p n s r
+counts_row p n s r sound range has =
     by_refusal (first_refusal s r.actor r.event) refl
   where
-    by_refusal : (o : Option Refusal) → first_refusal s r.actor r.event ≡ o → Moves p n s r
-    by_refusal (Some refusal) is = record {
-      counter = rw is (omega arith);
-      volumes = rw is (omega arith);
-      there = rw is has;
-    }
+    by_refusal : (o : Option Refusal) → first_refusal s r.actor r.event ≡ o → Counts p n s r
+    by_refusal (Some refusal) is = record { counter = rw is (omega arith); there = rw is has }
     by_refusal None is =
         let passes = passed s r.actor r.event is in
         let taken = taken_when_passed s r.actor r.event range passes in
         record {
           counter = rw is (counter_step p n s r.event sound taken has);
-          volumes = rw is (volumes_step p n s r.actor r.event sound taken passes);
           there = rw is (nozzle_after s r.event p n ∙ has);
         }
 
-adds_up : (p n : ℕ) (s : SiteState) (rows : List Row) → Sound s → AreInRange (events_of rows)
-    → has_nozzle p n s.nozzles ≡ true → AddsUp p n s rows
-adds_up p n s [] sound range has = record { counter = omega arith; volumes = omega arith }
-adds_up p n s (r ∷ rows) sound range has =
-    let one = moves_row p n s r sound range.0 has in
-    let rest = adds_up p n (site_after s r.actor r.event) rows
+counter_over : (p n : ℕ) (s : SiteState) (rows : List Row) → Sound s
+    → AreInRange (events_of rows) → has_nozzle p n s.nozzles ≡ true
+    → reading_of p n (site_of_rows s rows).nozzles + sum_over (falling p n) s rows
+    ≡ reading_of p n s.nozzles + sum_over (flowing p n) s rows + sum_over (rising p n) s rows
+counter_over p n s [] sound range has = omega arith
+counter_over p n s (r ∷ rows) sound range has =
+    let one = counts_row p n s r sound range.0 has in
+    let rest = counter_over p n (site_after s r.actor r.event) rows
     (sound_after s r.actor r.event range.0 sound) range.1 one.there in
-    record {
-      counter = omega (arith, one.counter, rest.counter);
-      volumes = omega (arith, one.volumes, rest.volumes);
-    }
+    omega (arith, one.counter, rest)
 
 pub each_nozzle_adds_up : EachNozzleAddsUp
-each_nozzle_adds_up = λ s rows p n sound range has. adds_up p n s rows sound range has
+each_nozzle_adds_up = λ s rows p n sound range has. record {
+  counter = counter_over p n s rows sound range has;
+  volumes = volumes_over p n s rows sound range;
+}

@@ -1,2 +1,3 @@
 pub mod NozzleMoves
 pub mod Laws
+pub mod ProductSums
