@@ -1,4 +1,5 @@
 pub mod Leaving
 pub mod Linking
+pub mod Pairing
 pub mod Reaching
 pub mod Streaming

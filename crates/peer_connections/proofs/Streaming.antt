@@ -1,7 +1,7 @@
 -- A peer is heard, and sent to, call after call.
 use Rattle.std.proofs.Common.{◌≡◌, ℕ, List, [], ◌∷◌, ◌++◌, Bool, true, false, drop, length, take}
 use Rattle.std.proofs.Common.{Option, Some, None, refl, sym, ap, subst, ◌∙◌, append_assoc}
-use Rattle.std.proofs.Common.{append-nil, suc, take-append-drop, zero}
+use Rattle.std.proofs.Common.{suc, take-append-drop, zero}
 use Rattle.std.specs.Prelude.{if◌then◌else◌}
 use Rattle.std.specs.Io.KnownBytes.{Appends, Consumes}
 use Rattle.site_book.specs.Book.{Book}

@@ -1,13 +1,14 @@
 //! The connections of all peers, and the station that they speak with.
 
-ghost use Rattle.std.specs.Prelude.{◌≡◌, false, length, IfOk, IfSome, OnOk, is_some, true};
+ghost use Rattle.std.specs.Prelude.{◌≡◌, ℕ, false, length, IfOk, IfSome, OnOk, is_some, true};
 ghost use Rattle.site_book.specs.Unpaid.{unpaid_sales};
 ghost use Rattle.station.specs.declared.sizes.TheConstants.{HEARD_OCTETS};
 ghost use Rattle.station.specs.Moves.{without_peer};
 ghost use Rattle.station.specs.Reads.{HasNoPeer};
+ghost use Rattle.station.specs.Runs.{opening_station};
 ghost use Rattle.journal.specs.Stored.{JournalGoesOn, is_all_stored, since_of, with_station};
 ghost use Rattle.peer_connections.specs.Allowed.{IsClosing, IsHearing, IsSending, lasts_at};
-ghost use Rattle.peer_connections.specs.Links.{OthersStay};
+ghost use Rattle.peer_connections.specs.Links.{ArePaired, OthersStay, has_link};
 ghost use Rattle.peer_connections.specs.Reaches.{Reaches, ReachesBy};
 
 use crate::change_watch::ChangeWatch;
@@ -26,7 +27,8 @@ use station::{HEARD_OCTETS, PEERS, PeerEnd};
 use std::alloc::Global;
 use std::time::Instant;
 
-/// The connections by their peers' keys, and the station with its journal.
+/// The connections by their peers' keys, and the station with its journal. Each connection is one
+/// of a peer that is there, and each peer that is there has one.
 #[derive(Drop)]
 pub struct Connections<D: Disk> {
     pub(crate) stored: StoredStation<D>,
@@ -56,27 +58,27 @@ pub struct Connections<D: Disk> {
     /// That the clock went back was said.
     has_told_clock: bool,
     ghost size: { length piece.items ≡ HEARD_OCTETS },
+    ghost paired: { ArePaired links.items stored.station.peers },
 }
 
 impl<D: Disk> Connections<D> {
-    /// No connections yet to this station. A session of it makes so many rows a second at most;
-    /// with 0 as many as it likes.
+    /// No connections yet to this station, which has no peers. A session of it makes so many rows a
+    /// second at most; with 0 as many as it likes.
+    #[tactic(auto, using(crate::proofs::Pairing::paired_open))]
     pub fn new(
         alloc: Global,
         stored: StoredStation<D>,
         rows_a_second: u64,
         patience: Patience,
     ) -> Result<Connections<D>, NoMemory>
+        requires alone { stored.station
+            ≡ opening_station stored.station.gates stored.station.book }
         ensures { IfOk result (λ c. c.stored ≡ stored) }
     {
         let changes = ChangeWatch::new(stored.book(), stored.gates().house().is_some());
-        let mut links = Vec::with_capacity(alloc, PEERS)?;
-        for _ in 0..PEERS {
-            links.push(None)?;
-        }
         Ok(Connections {
             stored,
-            links,
+            links: no_links(alloc)?,
             piece: Vec::from_elem(alloc, 0, HEARD_OCTETS)?,
             due: DueList::new(alloc)?,
             changes,
@@ -109,6 +111,7 @@ impl<D: Disk> Connections<D> {
     }
 
     /// Looks up which transactions of the station are unpaid.
+    #[tactic(auto, using(crate::proofs::Pairing::paired))]
     pub fn read_unpaid(&mut self) -> Result<(), NoMemory>
         ensures station { self.new.stored.station ≡ self.old.stored.station }
         ensures journal { self.new.stored.journal ≡ self.old.stored.journal }
@@ -147,7 +150,7 @@ impl<D: Disk> Connections<D> {
     }
 
     /// Stores each row that isn't stored yet: its peers may be told then.
-    #[tactic(auto, using(crate::proofs::Reaching::moved))]
+    #[tactic(auto, using(crate::proofs::Reaching::moved, crate::proofs::Pairing::paired))]
     fn store(&mut self) -> Result<(), DiskFault>
         ensures journal { JournalGoesOn self.old.stored.journal self.new.stored.journal }
         ensures station { self.new.stored.station ≡ self.old.stored.station }
@@ -169,6 +172,7 @@ impl<D: Disk> Connections<D> {
 
     /// Each row is stored: the history's chapter ends, if it is over. Where there can't be a next
     /// one now it goes on, which is said once.
+    #[tactic(auto, using(crate::proofs::Pairing::paired))]
     fn end_chapter<E: Eprint>(&mut self, rt: &E) -> Result<(), DiskFault>
         requires { is_all_stored self.old.stored ≡ true }
         ensures station { self.new.stored.station ≡ self.old.stored.station }
@@ -192,7 +196,7 @@ impl<D: Disk> Connections<D> {
 
     /// A round begins at this time, if it is known. Once it is said that the clock went back: then
     /// the last time stands for those before it.
-    #[tactic(auto, using(crate::proofs::Reaching::moved))]
+    #[tactic(auto, using(crate::proofs::Reaching::moved, crate::proofs::Pairing::paired))]
     pub fn begin_round<E: Eprint>(&mut self, rt: &E, clock: Option<Stamp>, now: Instant)
         ensures journal { JournalGoesOn self.old.stored.journal self.new.stored.journal }
         ensures station { self.new.stored.station ≡ self.old.stored.station }
@@ -245,7 +249,7 @@ impl<D: Disk> Connections<D> {
 
     /// A peer's connection is read, and the station hears it, unless it is held back. Where its
     /// session has ended nobody hears it. Says whether the station may have heard it.
-    #[tactic(auto, using(crate::proofs::Streaming::heard))]
+    #[tactic(auto, using(crate::proofs::Streaming::heard, crate::proofs::Pairing::paired))]
     fn hear_link(&mut self, key: usize, to_wait: bool, now: Instant) -> Result<bool, DiskFault>
         ensures moves { ReachesBy (IsHearing key) self.old.stored self.new.stored }
         ensures others { OthersStay key self.old.links.items self.new.links.items }
@@ -275,7 +279,7 @@ impl<D: Disk> Connections<D> {
     }
 
     /// Until when a session is held back, if it is.
-    fn held_until(&self, key: usize) -> Option<Instant> {
+    pub(crate) fn held_until(&self, key: usize) -> Option<Instant> {
         match self.links.get(key) {
             Some(Some(link)) => link.held_until,
             _ => None,
@@ -291,7 +295,7 @@ impl<D: Disk> Connections<D> {
     }
 
     /// A peer's connection takes octets again.
-    #[tactic(auto, using(crate::proofs::Linking::kept))]
+    #[tactic(auto, using(crate::proofs::Pairing::paired))]
     pub fn unblock(&mut self, key: usize)
         ensures stored { self.new.stored ≡ self.old.stored }
         ensures others { OthersStay key self.old.links.items self.new.links.items }
@@ -412,7 +416,7 @@ impl<D: Disk> Connections<D> {
     }
 
     /// A peer is sent what it is owed, and its connection follows its session.
-    #[tactic(auto, using(crate::proofs::Reaching::moved, crate::proofs::Linking::kept))]
+    #[tactic(auto, using(crate::proofs::Reaching::moved, crate::proofs::Pairing::paired))]
     fn send_owed<E: Eprint>(&mut self, registry: &Registry, rt: &E, key: usize, now: Instant)
         ensures moves { ReachesBy (IsClosing key) self.old.stored self.new.stored }
         ensures others { OthersStay key self.old.links.items self.new.links.items }
@@ -432,7 +436,7 @@ impl<D: Disk> Connections<D> {
     }
 
     /// A peer is sent what it may be told. What it can still do then, if it has a connection.
-    #[tactic(auto, using(crate::proofs::Streaming::sent))]
+    #[tactic(auto, using(crate::proofs::Streaming::sent, crate::proofs::Pairing::paired))]
     fn send_link(&mut self, key: usize, now: Instant) -> Option<Channel>
         ensures moves { ReachesBy (IsSending key) self.old.stored self.new.stored }
         ensures others { OthersStay key self.old.links.items self.new.links.items }
@@ -460,7 +464,7 @@ impl<D: Disk> Connections<D> {
 
     /// Where a peer's turn was over before all was read or sent that could be, its connection is
     /// reported once more.
-    #[tactic(auto, using(crate::proofs::Linking::kept))]
+    #[tactic(auto, using(crate::proofs::Pairing::paired))]
     fn report_again(&mut self, registry: &Registry, key: usize)
         ensures stored { self.new.stored ≡ self.old.stored }
         ensures others { OthersStay key self.old.links.items self.new.links.items }
@@ -499,7 +503,7 @@ impl<D: Disk> Connections<D> {
     }
 
     /// The connection of a peer is one that closes; false where it was one.
-    #[tactic(auto, using(crate::proofs::Linking::kept))]
+    #[tactic(auto, using(crate::proofs::Pairing::paired))]
     pub(crate) fn note_closing(&mut self, key: usize, now: Instant) -> bool
         ensures stored { self.new.stored ≡ self.old.stored }
         ensures others { OthersStay key self.old.links.items self.new.links.items }
@@ -538,7 +542,7 @@ impl<D: Disk> Connections<D> {
     }
 
     /// A peer is told that nothing more will come. Can it only take, or nothing at all?
-    #[tactic(auto, using(crate::proofs::Linking::kept))]
+    #[tactic(auto, using(crate::proofs::Pairing::paired))]
     fn shut(&mut self, key: usize) -> bool
         ensures stored { self.new.stored ≡ self.old.stored }
         ensures others { OthersStay key self.old.links.items self.new.links.items }
@@ -553,7 +557,7 @@ impl<D: Disk> Connections<D> {
     }
 
     /// The connection of a peer is closed, and the peer leaves.
-    #[tactic(auto, using(crate::proofs::Linking::kept))]
+    #[tactic(auto, using(crate::proofs::Pairing::paired))]
     pub(crate) fn remove(&mut self, key: usize)
         ensures left { self.new.stored
             ≡ with_station (without_peer key self.old.stored.station) self.old.stored }
@@ -590,7 +594,7 @@ impl<D: Disk> Connections<D> {
     /// The day ends: each session ends, and what it is owed is sent as far as its connection takes
     /// it, where each row is stored. Then each connection is closed: nobody is left. The history's
     /// chapter ends, if it is over, and its last row is sealed.
-    #[tactic(auto, using(crate::proofs::Reaching::moved))]
+    #[tactic(auto, using(crate::proofs::Reaching::moved, crate::proofs::Pairing::paired))]
     pub fn end_all<E: Eprint>(&mut self, rt: &E, now: Instant) -> Result<(), DiskFault>
         ensures moves { Reaches self.old.stored self.new.stored }
         ensures left { HasNoPeer self.new.stored.station }
@@ -608,7 +612,7 @@ impl<D: Disk> Connections<D> {
     }
 
     /// Each session ends.
-    #[tactic(auto, using(crate::proofs::Reaching::moved))]
+    #[tactic(auto, using(crate::proofs::Reaching::moved, crate::proofs::Pairing::paired))]
     fn finish_all(&mut self)
         ensures { Reaches self.old.stored self.new.stored }
     {
@@ -642,7 +646,7 @@ impl<D: Disk> Connections<D> {
 
     /// A peer is sent what it is owed, and told that nothing more will come. What it has sent is
     /// read, since a connection that is closed before that loses what was sent last.
-    #[tactic(auto, using(crate::proofs::Streaming::sent))]
+    #[tactic(auto, using(crate::proofs::Streaming::sent, crate::proofs::Pairing::paired))]
     fn send_last(&mut self, key: usize, now: Instant)
         ensures moves { ReachesBy (IsSending key) self.old.stored self.new.stored }
         ensures others { OthersStay key self.old.links.items self.new.links.items }
@@ -655,4 +659,16 @@ impl<D: Disk> Connections<D> {
             }
         }
     }
+}
+
+/// Nobody has a connection yet.
+#[tactic(auto, using(crate::proofs::Pairing::no_link_behind))]
+fn no_links<L: Drop>(alloc: Global) -> Result<Vec<Option<L>>, NoMemory>
+    ensures { IfOk result (λ links. (k : ℕ) → has_link links.items k ≡ false) }
+{
+    let mut links = Vec::with_capacity(alloc, PEERS)?;
+    for _ in 0..PEERS {
+        links.push(None)?;
+    }
+    Ok(links)
 }

@@ -59,21 +59,23 @@ impl<D: Disk> Connections<D> {
     }
 
     /// The session of a peer is held back no more, if it was for long enough; else false.
+    #[tactic(auto, using(crate::proofs::Pairing::paired))]
     fn end_hold(&mut self, registry: &Registry, key: usize, now: Instant) -> bool
         ensures { self.new.stored ≡ self.old.stored }
     {
-        let Some(Some(link)) = self.links.get_mut(key) else {
-            return false;
-        };
-        let Some(until) = link.held_until else {
+        let Some(until) = self.held_until(key) else {
             return false;
         };
         if until > now {
             self.note_hold(until);
             return false;
         }
-        link.held_until = None;
-        link.stream.watch_again(registry, key);
+        if let Some(slot) = self.links.get_mut(key) {
+            if let Some(link) = slot {
+                link.held_until = None;
+                link.stream.watch_again(registry, key);
+            }
+        }
         true
     }
 }

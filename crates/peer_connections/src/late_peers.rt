@@ -33,7 +33,7 @@ impl<D: Disk> Connections<D> {
     }
 
     /// The session of a peer ends, of which nothing came for so many seconds, or that took nothing.
-    #[tactic(auto, using(crate::proofs::Reaching::left_late, crate::proofs::Linking::kept))]
+    #[tactic(auto, using(crate::proofs::Reaching::left_late, crate::proofs::Pairing::paired))]
     fn end_late<E: Eprint>(&mut self, rt: &E, key: usize, what: &str, seconds: u64, now: Instant)
         ensures moves { ReachesBy (IsLate key) self.old.stored self.new.stored }
         ensures others { OthersStay key self.old.links.items self.new.links.items }

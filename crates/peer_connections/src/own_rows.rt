@@ -73,7 +73,7 @@ impl<D: Disk> Connections<D> {
 
     /// Makes room for the rows of the station's own. The rows so far are looked at before they are
     /// forgotten.
-    #[tactic(auto, using(crate::proofs::Reaching::done_alone))]
+    #[tactic(auto, using(crate::proofs::Reaching::done_alone, crate::proofs::Pairing::paired))]
     fn make_own_room(&mut self) -> Result<(), DiskFault>
         ensures { ReachesBy IsOwn self.old.stored self.new.stored }
     {

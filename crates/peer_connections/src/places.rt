@@ -1,16 +1,16 @@
 //! The places of peers: who comes gets one, and where all are taken, one that waits without a whole
 //! message leaves.
 
-ghost use Rattle.std.specs.Prelude.{◌≡◌, IfOk, IfSome, None, Some, false, is_some, true};
+ghost use Rattle.std.specs.Prelude.{◌≡◌, IfOk, IfSome, None, OnErr, Some, false, is_some, true};
 ghost use Rattle.peer_connections.specs.Allowed.{IsDismissal, IsWelcome, is_served_at};
-ghost use Rattle.peer_connections.specs.Links.{OthersStay};
+ghost use Rattle.peer_connections.specs.Links.{ArePaired, AwaitsLink, ComesTo, OthersStay};
 ghost use Rattle.peer_connections.specs.Reaches.{ReachesBy};
 
 use crate::connections::Connections;
 use crate::link::Link;
 use crate::nodes::is_of_a_site;
 use crate::peer_stream::PeerStream;
-use journal::Disk;
+use journal::{Disk, StoredStation};
 use mio::Registry;
 use mio::net::{TcpStream, UnixStream};
 use site_base::NoMemory;
@@ -30,9 +30,7 @@ impl<D: Disk> Connections<D> {
     )
         ensures { ReachesBy (IsWelcome None) self.old.stored self.new.stored }
     {
-        if let Some(key) = self.find_place_or_say(rt, None) {
-            self.link(registry, key, PeerStream::Tcp(stream), now);
-        }
+        self.settle_or_say(registry, rt, None, PeerStream::Tcp(stream), now);
     }
 
     /// A peer has come through the door of this place among the doors, as `welcome` says.
@@ -47,67 +45,87 @@ impl<D: Disk> Connections<D> {
     )
         ensures { ReachesBy (IsWelcome (Some door)) self.old.stored self.new.stored }
     {
-        if let Some(key) = self.find_place_or_say(rt, Some(door)) {
-            self.link(registry, key, PeerStream::Unix(stream), now);
-        }
+        self.settle_or_say(registry, rt, Some(door), PeerStream::Unix(stream), now);
     }
 
-    /// A place for a peer that has come at this door, or over TCP. That there is none is said.
+    /// A peer that has come at this door, or over TCP, gets a place. That there is none is said.
     #[tactic(auto, using(crate::proofs::Reaching::welcomed))]
-    fn find_place_or_say<E: Eprint>(&mut self, rt: &E, door: Option<usize>) -> Option<usize>
-        ensures moves { ReachesBy (IsWelcome door) self.old.stored self.new.stored }
-        ensures unserved { IfSome result (λ key.
-            is_served_at self.new.stored.station key ≡ false) }
+    fn settle_or_say<E: Eprint>(
+        &mut self,
+        registry: &Registry,
+        rt: &E,
+        door: Option<usize>,
+        stream: PeerStream,
+        now: Instant,
+    )
+        ensures { ReachesBy (IsWelcome door) self.old.stored self.new.stored }
     {
-        match self.find_place(door) {
-            Ok(Some(key)) => Some(key),
-            Ok(None) => {
+        match self.settle(registry, door, stream, now) {
+            Arrival::Done => {}
+            Arrival::NoPlace(_) => {
                 let _ = eprintln!(rt; "a connection was closed: all places are taken");
-                None
             }
-            Err(NoMemory) => {
+            Arrival::NoMemory(_) => {
                 let _ = eprintln!(rt; "a connection was closed: fault 31: out of memory");
-                None
             }
         }
     }
 
-    /// The peer that has come to this place has this connection.
-    #[tactic(auto, using(crate::proofs::Reaching::welcomed, crate::proofs::Linking::kept))]
-    fn link(&mut self, registry: &Registry, key: usize, stream: PeerStream, now: Instant)
-        requires { is_served_at self.old.stored.station key ≡ false }
-        ensures moves { ReachesBy IsDismissal self.old.stored self.new.stored }
-        ensures others { OthersStay key self.old.links.items self.new.links.items }
-    {
-        let mut stream = stream;
-        stream.send_at_once();
-        let is_watched = stream.watch(registry, key).is_ok();
-        if is_watched && key < self.links.len() {
-            let link = Link::new(stream, self.rows_a_second, self.round_time, now);
-            self.links[key] = Some(link);
-            self.may_wait = true;
-        } else {
-            self.stored.leave(key);
-        }
-    }
-
-    /// A place for a peer that has come at this door, or over TCP. Where all of these are taken,
+    /// A peer that has come at this door, or over TCP, gets a place. Where all of these are taken,
     /// the peer of one leaves that has waited longest without a whole message: so those that say
     /// nothing keep nobody out. Where memory is wanting at a door, such a peer over TCP leaves: so
     /// those keep nobody from a door.
     #[tactic(auto, using(crate::proofs::Reaching::welcomed))]
-    fn find_place(&mut self, door: Option<usize>) -> Result<Option<usize>, NoMemory>
-        ensures moves { ReachesBy (IsWelcome door) self.old.stored self.new.stored }
-        ensures unserved { IfOk result (λ found. IfSome found (λ key.
-            is_served_at self.new.stored.station key ≡ false)) }
+    fn settle(
+        &mut self,
+        registry: &Registry,
+        door: Option<usize>,
+        stream: PeerStream,
+        now: Instant,
+    ) -> Arrival
+        ensures { ReachesBy (IsWelcome door) self.old.stored self.new.stored }
     {
-        let found = self.arrive(door);
-        let has_left = match found {
-            Ok(None) => self.dismiss_longest_waiting(door),
-            Err(NoMemory) if door.is_some() => self.make_way(),
-            _ => false,
-        };
-        if has_left { self.arrive(door) } else { found }
+        match self.arrive(registry, door, stream, now) {
+            Arrival::NoPlace(stream) => {
+                if self.dismiss_longest_waiting(door) {
+                    self.arrive(registry, door, stream, now)
+                } else {
+                    Arrival::NoPlace(stream)
+                }
+            }
+            Arrival::NoMemory(stream) if door.is_some() => {
+                if self.make_way() {
+                    self.arrive(registry, door, stream, now)
+                } else {
+                    Arrival::NoMemory(stream)
+                }
+            }
+            arrival => arrival,
+        }
+    }
+
+    /// A peer arrives at this door, or over TCP, and has this connection from then on.
+    #[tactic(auto, using(crate::proofs::Reaching::welcomed, crate::proofs::Pairing::paired))]
+    fn arrive(
+        &mut self,
+        registry: &Registry,
+        door: Option<usize>,
+        stream: PeerStream,
+        now: Instant,
+    ) -> Arrival
+        ensures { ReachesBy (IsWelcome door) self.old.stored self.new.stored }
+    {
+        match arrive_in(&mut self.stored, door) {
+            Ok(None) => Arrival::NoPlace(stream),
+            Err(NoMemory) => Arrival::NoMemory(stream),
+            Ok(Some(key)) => {
+                let link = Link::new(stream, self.rows_a_second, self.round_time, now);
+                if set_link(&mut self.stored, &mut self.links, registry, key, link) {
+                    self.may_wait = true;
+                }
+                Arrival::Done
+            }
+        }
     }
 
     /// A connection can't be accepted, since no descriptor is left, say: the peer over TCP leaves
@@ -131,45 +149,6 @@ impl<D: Disk> Connections<D> {
                 true
             }
             None => false,
-        }
-    }
-
-    /// A peer arrives at this door, or over TCP.
-    #[tactic(auto, using(crate::proofs::Reaching::welcomed))]
-    fn arrive(&mut self, door: Option<usize>) -> Result<Option<usize>, NoMemory>
-        ensures moves { ReachesBy (IsWelcome door) self.old.stored self.new.stored }
-        ensures unserved { IfOk result (λ found. IfSome found (λ key.
-            is_served_at self.new.stored.station key ≡ false)) }
-    {
-        match door {
-            None => self.arrive_over_tcp(),
-            Some(place) => self.arrive_at(place),
-        }
-    }
-
-    /// A peer arrives over TCP.
-    #[tactic(auto, using(crate::proofs::Reaching::welcomed))]
-    fn arrive_over_tcp(&mut self) -> Result<Option<usize>, NoMemory>
-        ensures moves { ReachesBy (IsWelcome None) self.old.stored self.new.stored }
-        ensures unserved { IfOk result (λ found. IfSome found (λ key.
-            is_served_at self.new.stored.station key ≡ false)) }
-    {
-        match self.stored.arrive() {
-            Ok(key) => Ok(key),
-            Err(NoMemory) => Err(NoMemory),
-        }
-    }
-
-    /// A peer arrives at the door of this place among the doors.
-    #[tactic(auto, using(crate::proofs::Reaching::welcomed))]
-    fn arrive_at(&mut self, place: usize) -> Result<Option<usize>, NoMemory>
-        ensures moves { ReachesBy (IsWelcome (Some place)) self.old.stored self.new.stored }
-        ensures unserved { IfOk result (λ found. IfSome found (λ key.
-            is_served_at self.new.stored.station key ≡ false)) }
-    {
-        match self.stored.arrive_at(place) {
-            Ok(key) => Ok(key),
-            Err(NoMemory) => Err(NoMemory),
         }
     }
 
@@ -220,6 +199,99 @@ impl<D: Disk> Connections<D> {
             }),
         }
     }
+}
+
+/// What became of a peer that has come.
+#[derive(Drop)]
+enum Arrival {
+    /// It has a place; or it has left it, since the system doesn't report its connection.
+    Done,
+    /// It has none, since all are taken: its connection.
+    NoPlace(PeerStream),
+    /// It has none, since memory is wanting: its connection.
+    NoMemory(PeerStream),
+}
+
+/// A peer arrives in the station at this door, or over TCP. The key of its place, if it gets one:
+/// it has no connection yet.
+#[tactic(auto, using(crate::proofs::Reaching::welcomed, crate::proofs::Pairing::arrived))]
+fn arrive_in<D: Disk>(
+    stored: &mut StoredStation<D>,
+    door: Option<usize>,
+) -> Result<Option<usize>, NoMemory>
+    ensures moves { ReachesBy (IsWelcome door) stored.old stored.new }
+    ensures unserved { IfOk result (λ found. IfSome found (λ key.
+        is_served_at stored.new.station key ≡ false)) }
+    ensures came { IfOk result (λ found.
+        ComesTo found stored.old.station.peers stored.new.station.peers) }
+    ensures err { OnErr result (stored.new.station ≡ stored.old.station) }
+{
+    match door {
+        None => arrive_over_tcp(stored),
+        Some(place) => arrive_at(stored, place),
+    }
+}
+
+/// A peer arrives in the station over TCP.
+#[tactic(auto, using(crate::proofs::Reaching::welcomed, crate::proofs::Pairing::arrived))]
+fn arrive_over_tcp<D: Disk>(stored: &mut StoredStation<D>) -> Result<Option<usize>, NoMemory>
+    ensures moves { ReachesBy (IsWelcome None) stored.old stored.new }
+    ensures unserved { IfOk result (λ found. IfSome found (λ key.
+        is_served_at stored.new.station key ≡ false)) }
+    ensures came { IfOk result (λ found.
+        ComesTo found stored.old.station.peers stored.new.station.peers) }
+    ensures err { OnErr result (stored.new.station ≡ stored.old.station) }
+{
+    match stored.arrive() {
+        Ok(key) => Ok(key),
+        Err(NoMemory) => Err(NoMemory),
+    }
+}
+
+/// A peer arrives in the station at the door of this place among the doors.
+#[tactic(auto, using(crate::proofs::Reaching::welcomed, crate::proofs::Pairing::arrived))]
+fn arrive_at<D: Disk>(
+    stored: &mut StoredStation<D>,
+    place: usize,
+) -> Result<Option<usize>, NoMemory>
+    ensures moves { ReachesBy (IsWelcome (Some place)) stored.old stored.new }
+    ensures unserved { IfOk result (λ found. IfSome found (λ key.
+        is_served_at stored.new.station key ≡ false)) }
+    ensures came { IfOk result (λ found.
+        ComesTo found stored.old.station.peers stored.new.station.peers) }
+    ensures err { OnErr result (stored.new.station ≡ stored.old.station) }
+{
+    match stored.arrive_at(place) {
+        Ok(key) => Ok(key),
+        Err(NoMemory) => Err(NoMemory),
+    }
+}
+
+/// The peer that has come to this place has this connection. Where the system doesn't report it,
+/// the peer leaves: then false.
+#[tactic(auto, using(crate::proofs::Reaching::welcomed, crate::proofs::Pairing::linked))]
+fn set_link<D: Disk>(
+    stored: &mut StoredStation<D>,
+    links: &mut Vec<Option<Link<PeerStream>>>,
+    registry: &Registry,
+    key: usize,
+    link: Link<PeerStream>,
+) -> bool
+    requires unserved { is_served_at stored.old.station key ≡ false }
+    requires awaits { AwaitsLink key links.old.items stored.old.station.peers }
+    ensures moves { ReachesBy IsDismissal stored.old stored.new }
+    ensures others { OthersStay key links.old.items links.new.items }
+    ensures paired { ArePaired links.new.items stored.new.station.peers }
+{
+    let mut link = link;
+    link.stream.send_at_once();
+    let is_watched = link.stream.watch(registry, key).is_ok();
+    if is_watched && key < links.len() {
+        links[key] = Some(link);
+        return true;
+    }
+    stored.leave(key);
+    false
 }
 
 /// How long a peer has waited without a whole message.

@@ -1,14 +1,20 @@
-use Rattle.std.proofs.Common.{Option, subst, sym, ℕ}
-use Rattle.peer_connections.specs.Allowed.{IsWelcome}
-use Rattle.peer_connections.specs.Reaches.{ReachesBy}
+use Rattle.peer_connections.proofs.Pairing.{paired_none}
+use Rattle.peer_connections.proofs.Reaching.{reaches_then, reaches_welcome}
 use Rattle.peer_connections.proofs.connections.Connections.arrive.Goals as goal
 
-pub returns-in-None-clause-moves : goal.returns-in-None-clause-moves
-returns-in-None-clause-moves g c =
-    subst (λ (d : Option ℕ). ReachesBy (IsWelcome d) c.args.self.now.stored
-    c.arrive_over_tcp.new.self.stored) (sym c.in-None.is) c.arrive_over_tcp.ensures.moves
+-- it gets no place
+pub invariant_of-self-clause-paired : goal.invariant_of-self-clause-paired
+invariant_of-self-clause-paired g c =
+    paired_none _ _ _ _ c.in-Ok-None.field-0-is c.args.self.now.paired c.in-Ok-None.ensures.came
 
-pub returns-in-Some-clause-moves : goal.returns-in-Some-clause-moves
-returns-in-Some-clause-moves g c =
-    subst (λ (d : Option ℕ). ReachesBy (IsWelcome d) c.args.self.now.stored
-    c.arrive_at.new.self.stored) (sym c.in-Some.is) c.arrive_at.ensures.moves
+-- it has a connection
+pub returns-then-set_link : goal.returns-then-set_link
+returns-then-set_link g c =
+    reaches_then _ _ _ _ c.arrive_in.ensures.moves
+    (reaches_welcome _ _ _ c.set_link.ensures.moves)
+
+-- .. or leaves
+pub returns-else-set_link : goal.returns-else-set_link
+returns-else-set_link g c =
+    reaches_then _ _ _ _ c.arrive_in.ensures.moves
+    (reaches_welcome _ _ _ c.set_link.ensures.moves)

@@ -1,3 +1,4 @@
+use Rattle.peer_connections.proofs.Pairing.{paired_released}
 use Rattle.peer_connections.proofs.Reaching.{reaches_released}
 use Rattle.peer_connections.proofs.connections.Connections.end_release.Goals as goal
 
@@ -5,3 +6,9 @@ pub returns : goal.returns
 returns g c =
     let ended = c.end_release.ensures.station in
     reaches_released ended.0 ended.1 c.args.p _ _ ended.2 c.end_release.ensures.journal
+
+pub invariant_of-self-clause-paired : goal.invariant_of-self-clause-paired
+invariant_of-self-clause-paired g c =
+    let ended = c.end_release.ensures.station in
+    paired_released ended.0 ended.1 c.args.p _ c.args.self.now.stored.station _ ended.2
+    c.args.self.now.paired

@@ -1,3 +1,4 @@
+use Rattle.peer_connections.proofs.Pairing.{paired_lost}
 use Rattle.peer_connections.proofs.Reaching.{reaches_lost}
 use Rattle.peer_connections.proofs.connections.Connections.lose_dispenser.Goals as goal
 
@@ -5,3 +6,9 @@ pub returns : goal.returns
 returns g c =
     let lost = c.lose_dispenser.ensures.station in
     reaches_lost lost.0 c.args.p _ _ lost.1 c.lose_dispenser.ensures.journal
+
+pub invariant_of-self-clause-paired : goal.invariant_of-self-clause-paired
+invariant_of-self-clause-paired g c =
+    let lost = c.lose_dispenser.ensures.station in
+    paired_lost lost.0 c.args.p _ c.args.self.now.stored.station _ lost.1
+    c.args.self.now.paired

@@ -1,4 +1,4 @@
-use Rattle.std.proofs.Common.{ap, inl, refl, rules}
+use Rattle.std.proofs.Common.{ap, inl, rules}
 use Rattle.peer_connections.proofs.Streaming.{heard_as, heard_ready, heard_then, heard_with_room}
 use Rattle.peer_connections.proofs.link.Link.hear.Goals as goal
 use Rattle.peer_connections.proofs.link.Link.hear.Goals.{in-Interrupted, in-Passed+else-n-size}
