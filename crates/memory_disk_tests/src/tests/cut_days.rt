@@ -29,13 +29,14 @@ const MOST_OCTETS: usize = 160;
 /// Cuts the day at each of its calls in turn, and starts on what is left. Says how many there are.
 fn cut_each(rt: &impl Abort, alloc: Global, day: &Day, crash: &Crash) -> Result<u64, NoMemory> {
     for calls in 0..MOST_CALLS {
-        let mut remains = day.cut(rt, alloc, calls, crash)?;
+        let remains = day.cut(rt, alloc, calls, crash)?;
+        let reached = remains.reached;
         if !remains.is_cut {
-            assert!(rt; remains.reached.told == ROWS, "the day isn't whole");
+            assert!(rt; reached.told == ROWS, "the day isn't whole");
             return Ok(calls);
         }
-        remains.reached = crash.find(remains.reached);
-        check_start(rt, alloc, day, &mut remains)?;
+        let mut disk = remains.disk;
+        check_start(rt, alloc, day, &mut disk, crash.find(reached))?;
     }
     Ok(MOST_CALLS)
 }
@@ -68,9 +69,11 @@ fn cut_octets(rt: &impl Abort, alloc: Global, day: &Day, calls: u64) -> Result<(
             is_done: false,
             kept: Some(usize::MAX),
         };
-        let mut remains = day.cut(rt, alloc, calls, &crash)?;
+        let remains = day.cut(rt, alloc, calls, &crash)?;
         assert!(rt; remains.is_cut, "not cut");
-        check_start(rt, alloc, day, &mut remains)?;
+        let reached = remains.reached;
+        let mut disk = remains.disk;
+        check_start(rt, alloc, day, &mut disk, reached)?;
     }
     Ok(())
 }
@@ -95,10 +98,12 @@ fn the_end_of_a_chapter_is_cut(rt: HostRuntime) -> Result<(), Fail> {
             is_done,
             kept: Some(0),
         };
-        let mut remains = day.cut(&rt, alloc, BEGIN_CALLS, &crash)?;
-        assert_eq!(rt; remains.reached.told, 11);
-        assert_eq!(rt; remains.disk.closed(), u64::from(is_done));
-        check_start(&rt, alloc, &day, &mut remains)?;
+        let remains = day.cut(&rt, alloc, BEGIN_CALLS, &crash)?;
+        let reached = remains.reached;
+        let mut disk = remains.disk;
+        assert_eq!(rt; reached.told, 11);
+        assert_eq!(rt; disk.closed(), u64::from(is_done));
+        check_start(&rt, alloc, &day, &mut disk, reached)?;
     }
     Ok(())
 }

@@ -1,8 +1,8 @@
 //! Starts that are cut at each call of their disk, and the starts after them.
 
 use super::crash::{CRASHES, Crash, LOST, STOPPED, TORN};
-use super::day::{BEGIN_CALLS, CLEAR_CALLS, Day, Reached, Remains};
-use super::starts::{check_start, start};
+use super::day::{BEGIN_CALLS, CLEAR_CALLS, Day, Remains};
+use super::starts::{check_start, try_start};
 use site_base::NoMemory;
 use std::alloc::Global;
 use std::process::Abort;
@@ -44,20 +44,10 @@ fn cut_start(
 ) -> Result<bool, NoMemory> {
     let mut disk = remains.disk;
     disk.cut_at(crash.at(calls));
-    let reached = match start(rt, alloc, &day.config, &mut disk)? {
-        Some(opened) => Reached {
-            told: opened.rows,
-            heard: opened.rows,
-        },
-        None => remains.reached,
-    };
+    let reached = try_start(rt, alloc, day, &mut disk, remains.reached)?;
     let is_cut = disk.is_cut();
-    let mut left = Remains {
-        disk: crash.leave(disk),
-        reached,
-        is_cut,
-    };
-    check_start(rt, alloc, day, &mut left)?;
+    let mut left = crash.leave(disk);
+    check_start(rt, alloc, day, &mut left, reached)?;
     Ok(is_cut)
 }
 
