@@ -1,4 +1,4 @@
-//! What no clause says: that a start finds what was told before a cut.
+//! What no clause says: after a cut a start succeeds, and finds the rows that were sent.
 
 mod crash;
 mod cut_days;

@@ -3,40 +3,41 @@
 use super::day::Reached;
 use memory_disk::{Cut, MemoryDisk};
 
-/// What is done of a call at which a disk is cut, and what is left of the disk then.
+/// How much of a call is done when a disk is cut, and what is left of the disk.
 #[derive(Clone, Copy)]
 pub struct Crash {
-    /// Of an append, so many octets are written.
+    /// The octets of an append that are written.
     pub octets: usize,
-    /// Whether octets are renewed, or the next chapter has begun.
+    /// Whether a renewal is done, or the next chapter has begun.
     pub is_done: bool,
-    /// So many octets are left that weren't synced. None where the process alone ends: all are.
+    /// The octets that are left of those that weren't synced. None if only the process ends: all
+    /// are left, and still not synced.
     pub kept: Option<usize>,
 }
 
-/// Nothing of the call is left.
+/// Nothing is left of the call.
 pub const LOST: Crash = Crash {
     octets: 0,
     is_done: false,
     kept: Some(0),
 };
 
-/// The beginning of an append is left.
+/// The first octets of an append are left.
 pub const TORN: Crash = Crash {
     octets: 40,
     is_done: true,
     kept: Some(usize::MAX),
 };
 
-/// The process ends: what was written is read, and isn't on the disk where no flush came.
+/// Only the process ends, after the whole append: it is read, but isn't on the disk.
 pub const STOPPED: Crash = Crash {
     octets: usize::MAX,
     is_done: false,
     kept: None,
 };
 
-/// Of the call nothing is done, a part, or all; and of what isn't synced nothing is left, a part,
-/// or all, or the process alone ends.
+/// The call is done not at all, in part or as a whole. What isn't synced is left not at all, in
+/// part or as a whole, or only the process ends.
 pub const CRASHES: [Crash; 9] = [
     LOST,
     TORN,
@@ -74,7 +75,7 @@ pub const CRASHES: [Crash; 9] = [
 ];
 
 impl Crash {
-    /// The cut behind so many calls.
+    /// The cut after this number of calls.
     pub fn at(&self, calls: u64) -> Cut {
         Cut {
             calls,
@@ -91,13 +92,13 @@ impl Crash {
         }
     }
 
-    /// What a start finds of a day that came so far: just what was told where nothing is left that
-    /// wasn't synced, and just what was heard where all of it is.
+    /// The rows that a start finds: those that were sent if nothing is left that wasn't synced,
+    /// those that were heard if all of it is, and otherwise any number between.
     pub fn find(&self, reached: Reached) -> Reached {
-        let Reached { told, heard } = reached;
+        let Reached { sent, heard } = reached;
         match (self.octets, self.kept) {
-            (_, Some(0)) => Reached { told, heard: told },
-            (usize::MAX, None | Some(usize::MAX)) => Reached { told: heard, heard },
+            (_, Some(0)) => Reached { sent, heard: sent },
+            (usize::MAX, None | Some(usize::MAX)) => Reached { sent: heard, heard },
             _ => reached,
         }
     }

@@ -1,4 +1,4 @@
-//! Starts that are cut at each call of their disk, and the starts after them.
+//! Starts that are cut at each call of their disk, each with another start after it.
 
 use super::crash::{CRASHES, Crash, LOST, STOPPED, TORN};
 use super::day::{BEGIN_CALLS, CLEAR_CALLS, Day, Remains};
@@ -11,10 +11,10 @@ use std::test::Fail;
 /// More calls than a day or a start has.
 const MOST_CALLS: u64 = 100;
 
-/// The day is cut at an append, at its flush, where the next chapter begins, or at no call.
+/// The day is cut at an append, at its flush, at the begin of the next chapter, or at no call.
 const CALLS: [u64; 4] = [CLEAR_CALLS, CLEAR_CALLS + 1, BEGIN_CALLS, MOST_CALLS];
 
-/// Cuts the day behind so many calls, and the start at each of its own.
+/// Cuts the day after this number of calls, and the start after it at each of its calls.
 fn cut_starts(
     rt: &impl Abort,
     alloc: Global,
@@ -32,8 +32,8 @@ fn cut_starts(
     Ok(())
 }
 
-/// A start on what a day left is cut behind so many calls, and another comes. Says whether the
-/// first was cut.
+/// A start on what a day left is cut after this number of calls, and another one comes. Returns
+/// whether the first one was cut.
 fn cut_start(
     rt: &impl Abort,
     alloc: Global,
@@ -54,7 +54,7 @@ fn cut_start(
 #[test]
 fn a_start_is_cut_at_each_call(rt: HostRuntime) -> Result<(), Fail> {
     let alloc = rt.alloc();
-    let day = Day::read(&rt, alloc, None)?;
+    let day = Day::read(&rt, alloc, 1, None)?;
     for calls in CALLS {
         for crash in [LOST, TORN, STOPPED] {
             for second in &CRASHES {

@@ -13,31 +13,32 @@ use std::alloc::Global;
 use std::process::Abort;
 use std::time::Instant;
 
-/// So many calls come before the append of the tenth row, which clears the sale: those of a start,
-/// which reads and renews, and an append and a flush of each row before it.
+/// The calls before the append of the tenth row, which clears the sale: a read and a renewal by the
+/// start, and an append and a flush for each row above it.
 pub const CLEAR_CALLS: u64 = 2 + 2 * 9;
 
-/// .. of the eleventh row, which closes the shift.
+/// The calls before the append of the eleventh row, which closes the shift.
 pub const CLOSE_CALLS: u64 = 2 + 2 * 10;
 
-/// .. before the call that begins the next chapter, after that row.
+/// The calls before the one that begins the next chapter, after that row.
 pub const BEGIN_CALLS: u64 = 2 + 2 * 11;
 
-/// A day: its site, its messages, and when each of its rounds begins. Without that no round is
-/// begun, and each ends with a seal; else the first one does.
+/// A day: its site, its messages, how many of them a round has, and when each round begins. If that
+/// is known, only the first round ends with a seal, and otherwise each does.
 #[derive(Drop)]
 pub struct Day {
     pub config: SiteConfig,
     pub messages: Vec<Message>,
+    pub in_round: usize,
     pub begin: Option<Instant>,
 }
 
-/// How far a day came.
+/// How far a day came, in kept rows.
 #[derive(Clone, Copy, Debug, PartialEq, Eq)]
 pub struct Reached {
-    /// So many rows were kept after the last message whose reply was told.
-    pub told: u64,
-    /// .. after the last message that was heard.
+    /// Those up to the last message whose reply was sent.
+    pub sent: u64,
+    /// Those up to the last message that was heard.
     pub heard: u64,
 }
 
@@ -50,20 +51,26 @@ pub struct Remains {
     pub is_cut: bool,
 }
 
-/// A station on a disk that is there when the station is gone.
+/// A station on a borrowed disk.
 type Lent<'a> = StoredStation<LentDisk<'a>>;
 
 impl Day {
-    /// The day whose rounds begin then.
-    pub fn read(rt: &impl Abort, alloc: Global, begin: Option<Instant>) -> Result<Day, NoMemory> {
+    /// The day with this number of messages in a round, whose rounds begin at this time.
+    pub fn read(
+        rt: &impl Abort,
+        alloc: Global,
+        in_round: usize,
+        begin: Option<Instant>,
+    ) -> Result<Day, NoMemory> {
         Ok(Day {
             config: known_site(alloc)?,
             messages: read_messages(rt, alloc)?,
+            in_round,
             begin,
         })
     }
 
-    /// The day on a new disk that is cut behind so many calls.
+    /// Runs the day on a new disk, which is cut after this number of calls.
     pub fn cut(
         &self,
         rt: &impl Abort,
@@ -82,14 +89,14 @@ impl Day {
         })
     }
 
-    /// The day on this disk.
+    /// Runs the day on this disk.
     fn live(
         &self,
         rt: &impl Abort,
         alloc: Global,
         disk: &mut MemoryDisk,
     ) -> Result<Reached, NoMemory> {
-        let mut reached = Reached { told: 0, heard: 0 };
+        let mut reached = Reached { sent: 0, heard: 0 };
         if let Some(opened) = start(rt, alloc, &self.config, disk)? {
             let mut station = opened.station;
             welcome(rt, &mut station)?;
@@ -98,7 +105,7 @@ impl Day {
         Ok(reached)
     }
 
-    /// The messages, until the disk fails.
+    /// Runs the rounds, until the disk fails.
     fn hear_all(
         &self,
         rt: &impl Abort,
@@ -106,14 +113,14 @@ impl Day {
         station: &mut Lent<'_>,
         reached: &mut Reached,
     ) -> Result<(), NoMemory> {
-        for message in &self.messages {
-            self.begin_round(alloc, station, message.kept)?;
-            hear(rt, alloc, station, message)?;
-            reached.heard = message.kept;
-            if !tell(rt, station, message) {
+        assert!(rt; self.in_round > 0, "no message in a round");
+        for round in self.messages.chunks(self.in_round) {
+            self.begin_round(alloc, station, reached.heard)?;
+            hear_round(rt, alloc, station, round, reached)?;
+            if !send_round(rt, station, round) {
                 break;
             }
-            reached.told = message.kept;
+            reached.sent = reached.heard;
             if !end_chapter(rt, station) {
                 break;
             }
@@ -121,21 +128,21 @@ impl Day {
         Ok(())
     }
 
-    /// The round with the row of this number begins, so many seconds behind the opening.
+    /// A round begins, this number of seconds after the opening.
     fn begin_round(
         &self,
         alloc: Global,
         station: &mut Lent<'_>,
-        number: u64,
+        seconds: u64,
     ) -> Result<(), NoMemory> {
         if let Some(begin) = self.begin {
-            let is_behind = station.begin_round(time_of(alloc, number)?, begin);
+            let _is_behind = station.begin_round(time_of(alloc, seconds)?, begin);
         }
         Ok(())
     }
 }
 
-/// So many seconds behind the opening.
+/// The time this number of seconds after the opening.
 pub fn time_of(alloc: Global, seconds: u64) -> Result<Option<Stamp>, NoMemory> {
     let (tens, ones) = (seconds / 10 % 6, seconds % 10);
     let text = format!(in alloc; "2026-11-27T06:00:{tens}{ones}.000Z")?;
@@ -151,7 +158,7 @@ fn welcome(rt: &impl Abort, station: &mut Lent<'_>) -> Result<(), NoMemory> {
     Ok(())
 }
 
-/// The key of who sends these octets.
+/// The key of the peer that sends this message.
 fn key_of(octets: &[u8]) -> usize {
     match octets {
         [_, _, 2, 1, ..] => 0,
@@ -160,7 +167,22 @@ fn key_of(octets: &[u8]) -> usize {
     }
 }
 
-/// A message is heard: its row is there, and nobody is told of it yet.
+/// The messages of a round are heard.
+fn hear_round(
+    rt: &impl Abort,
+    alloc: Global,
+    station: &mut Lent<'_>,
+    round: &[Message],
+    reached: &mut Reached,
+) -> Result<(), NoMemory> {
+    for message in round {
+        hear(rt, alloc, station, message)?;
+        reached.heard = message.kept;
+    }
+    Ok(())
+}
+
+/// A message is heard: it makes its row, and its reply is pending, but isn't sent yet.
 fn hear(
     rt: &impl Abort,
     alloc: Global,
@@ -176,22 +198,26 @@ fn hear(
         has_row(alloc, book.row(place), message.row)?,
         "another row"
     );
-    assert!(rt; station.told_octets(key).is_empty(), "told too early");
+    assert!(rt; station.is_owed(key), "no reply");
+    assert!(rt; station.told_octets(key).is_empty(), "sent too early");
     Ok(())
 }
 
-/// The row of a message is stored, and its reply told. False where the disk fails: nothing is told.
-fn tell(rt: &impl Abort, station: &mut Lent<'_>, message: &Message) -> bool {
-    let key = key_of(&message.octets);
+/// The rows of a round are stored, and its replies are sent. False if the disk fails: then nothing
+/// is sent.
+fn send_round(rt: &impl Abort, station: &mut Lent<'_>, round: &[Message]) -> bool {
     let is_stored = station.store().is_ok();
-    let told = station.told_octets(key).len();
-    assert!(rt; is_stored == (told > 0), "told, and not stored");
-    station.take(key, told);
+    for message in round {
+        let key = key_of(&message.octets);
+        let sent = station.told_octets(key).len();
+        station.take(key, sent);
+        assert!(rt; station.is_owed(key) != is_stored, "sent, and not stored");
+    }
     is_stored
 }
 
-/// The chapter ends, if it is over. False where the disk fails.
+/// The chapter ends, if it is over. False if the disk fails.
 fn end_chapter(rt: &impl Abort, station: &mut Lent<'_>) -> bool {
-    assert!(rt; station.is_all_stored(), "told, and not stored");
+    assert!(rt; station.is_all_stored(), "sent, and not stored");
     station.end_chapter_if_over().is_ok()
 }

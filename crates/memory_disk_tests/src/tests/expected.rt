@@ -1,12 +1,13 @@
 //! The rows that a book has to have, from the day's text.
 
+use super::day::Reached;
 use super::message::Message;
 use site_base::{NoMemory, Row};
 use site_book::SiteBook;
 use std::alloc::Global;
 
-/// The day's first rows in words, up to so many that are kept, and after them the sign-offs of the
-/// tills that were signed on then.
+/// The rows after a start, in words: the first kept rows of the day, this number of them, and then
+/// the sign-offs of the tills that were signed on.
 pub fn expected_rows(
     alloc: Global,
     messages: &[Message],
@@ -26,7 +27,7 @@ pub fn expected_rows(
     Ok(rows)
 }
 
-/// The sign-offs of these tills come after the rows.
+/// Appends the sign-offs of these tills.
 fn push_sign_offs(alloc: Global, on: &str, rows: &mut Vec<String>) -> Result<(), NoMemory> {
     for till in on.split_whitespace() {
         if till != "-" {
@@ -34,6 +35,28 @@ fn push_sign_offs(alloc: Global, on: &str, rows: &mut Vec<String>) -> Result<(),
         }
     }
     Ok(())
+}
+
+/// The number of rows that are left if this number of octets is left of the lines of the last
+/// round: those that were sent, and each whose line is whole. The line of a row is its message in
+/// hexadecimal, and a line feed.
+pub fn rows_left(messages: &[Message], reached: Reached, octets: usize) -> u64 {
+    let mut kept = reached.sent;
+    let mut end = 0usize;
+    for message in messages {
+        if message.kept > kept && message.kept <= reached.heard {
+            end = end.saturating_add(line_octets(message));
+            if end <= octets {
+                kept = message.kept;
+            }
+        }
+    }
+    kept
+}
+
+/// The octets of the line of a message.
+fn line_octets(message: &Message) -> usize {
+    message.octets.len().saturating_mul(2).saturating_add(1)
 }
 
 /// Does the book have just these rows?
@@ -49,7 +72,7 @@ pub fn has_rows(alloc: Global, book: &SiteBook, rows: &[String]) -> Result<bool,
     Ok(true)
 }
 
-/// Is there a row, and is it this one in words?
+/// Is there a row, and is it this one?
 pub fn has_row(alloc: Global, row: Option<Row>, words: &str) -> Result<bool, NoMemory> {
     match row {
         None => Ok(false),

@@ -1,13 +1,13 @@
-//! The messages of the day: a line for each.
+//! The messages of the day.
 
 use hex_lines::{LineText, read_octets};
 use site_base::NoMemory;
 use std::alloc::Global;
 use std::process::Abort;
 
-/// A day of two tills and a dispenser on the known site. Each line has how many rows are kept after
-/// a message, which tills are signed on then, its row in words, and its octets. A read makes a row
-/// that isn't kept. The close of the shift ends a chapter.
+/// A day of two tills and a dispenser on the known site, with a line for each message: the number
+/// of kept rows after it, the tills that are signed on then, its row in words, and its octets. A
+/// read's row isn't kept. The close of the shift ends a chapter.
 const DAY: &str = "\
 1 | t1 | t1 SignOn: Done | \
     01 01 02 01 00 41 00 04 01 01 31 00
@@ -44,7 +44,7 @@ const DAY: &str = "\
 /// A message of the day.
 #[derive(Drop)]
 pub struct Message {
-    /// How many rows are kept after it.
+    /// The number of kept rows after it.
     pub kept: u64,
     /// The tills that are signed on then.
     pub on: &'static str,

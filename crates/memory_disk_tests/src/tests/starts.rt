@@ -1,4 +1,4 @@
-//! Starts on a disk, and what they have to find.
+//! Starts on a disk, and what each has to find.
 
 use super::day::{Day, Reached, time_of};
 use super::expected::{expected_rows, has_rows};
@@ -9,7 +9,7 @@ use site_book::SiteBook;
 use std::alloc::Global;
 use std::process::Abort;
 
-/// A start on this disk at the opening; None where the disk fails. It is never refused.
+/// A start on this disk. None if the disk fails: a start is never refused.
 pub fn start<'a>(
     rt: &impl Abort,
     alloc: Global,
@@ -29,8 +29,8 @@ pub fn start<'a>(
     }
 }
 
-/// A start on the disk of a day that came so far finds each row that was told, and no row that
-/// wasn't heard.
+/// A start on the disk of a day that came this far. It finds each row that was sent, and no row
+/// that wasn't heard.
 pub fn check_start(
     rt: &impl Abort,
     alloc: Global,
@@ -41,15 +41,15 @@ pub fn check_start(
     let mut is_found = false;
     if let Some(opened) = start(rt, alloc, &day.config, disk)? {
         let station = opened.station;
-        assert!(rt; opened.rows >= reached.told, "a row was told, and is lost");
+        assert!(rt; opened.rows >= reached.sent, "a row was sent, and is lost");
         is_found = is_expected(alloc, day, station.book(), reached)?;
     }
-    assert!(rt; is_found, "other rows than those that were told and heard");
+    assert!(rt; is_found, "other rows than those that were sent and heard");
     Ok(())
 }
 
-/// A start, maybe cut, on the disk of a day that came so far. What was told then, and what was
-/// heard: where it opens, each row that it read.
+/// A start on the disk of a day that came this far, which may fail. If it succeeds, each row that
+/// it read counts as sent.
 pub fn try_start(
     rt: &impl Abort,
     alloc: Global,
@@ -61,22 +61,22 @@ pub fn try_start(
     if let Some(opened) = start(rt, alloc, &day.config, disk)? {
         let _station = opened.station;
         found = Reached {
-            told: opened.rows,
+            sent: opened.rows,
             heard: opened.rows,
         };
     }
     Ok(found)
 }
 
-/// Does the book have the day's rows up to those that were told, or up to those that were heard,
-/// or some of the rows between, and the sign-offs behind them?
+/// Does the book have the kept rows of the day up to one between those that were sent and those
+/// that were heard, and then the sign-offs?
 fn is_expected(
     alloc: Global,
     day: &Day,
     book: &SiteBook,
     reached: Reached,
 ) -> Result<bool, NoMemory> {
-    for kept in reached.told..=reached.heard {
+    for kept in reached.sent..=reached.heard {
         let rows = expected_rows(alloc, &day.messages, kept)?;
         if has_rows(alloc, book, &rows)? {
             return Ok(true);
