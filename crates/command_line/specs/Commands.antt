@@ -37,7 +37,7 @@ abbrev pub command_names : List Text
 command_names =
     codes "check" ∷ codes "replay" ∷ codes "report" ∷ codes "sales" ∷ codes "serve"
     ∷ codes "station" ∷ codes "demo" ∷ codes "shifts" ∷ codes "next" ∷ codes "verify"
-    ∷ codes "story" ∷ codes "explain" ∷ codes "spell" ∷ []
+    ∷ codes "story" ∷ codes "explain" ∷ codes "spell" ∷ codes "ask" ∷ []
 
 -- this name with these rows says this command; any other name the replay on the known site
 abbrev pub IsSaid : Text → List Row → Command → Type 0
@@ -84,6 +84,9 @@ IsSaid name rows (commands.Explain o) =
     (name ≡ codes "explain") × IsOption (codes "WHAT") rows o.what
     × IsOption (codes "shift") rows o.shift × HasFlag (codes "times") rows o.times
 IsSaid name rows commands.Spell = name ≡ codes "spell"
+IsSaid name rows (commands.Ask o) =
+    (name ≡ codes "ask") × IsOption (codes "port") rows o.port
+    × IsOption (codes "door") rows o.door × HasFlag (codes "strict") rows o.strict
 IsSaid name rows commands.ReplayHere = All (λ n. name ≢ n) command_names
 
 -- .. what `clap` finds says this command; without a name it is the replay on the known site

@@ -92,7 +92,9 @@ abbrev pub word_shapes : List Shape
 word_shapes =
     command (codes "explain")
     (new_rule (codes "WHAT") ∷ option_rule (codes "shift") ∷ flag_rule (codes "times") ∷ [])
-    ∷ command (codes "spell") [] ∷ []
+    ∷ command (codes "spell") []
+    ∷ command (codes "ask")
+    (option_rule (codes "port") ∷ option_rule (codes "door") ∷ flag_rule (codes "strict") ∷ []) ∷ []
 
 -- ---- the program
 

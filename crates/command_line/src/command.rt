@@ -32,6 +32,8 @@ pub enum Command<'a> {
     Explain(ExplainOptions<'a>),
     /// `spell`
     Spell,
+    /// `ask --port N | --door PATH [--strict]`
+    Ask(AskOptions<'a>),
 }
 
 /// What `replay` is given.
@@ -135,6 +137,17 @@ pub struct DemoOptions<'a> {
     pub script: &'a str,
     /// The tills' sessions run over sockets.
     pub loopback: bool,
+}
+
+/// What `ask` is given.
+#[derive(Clone, Copy, Debug, PartialEq, Eq)]
+pub struct AskOptions<'a> {
+    /// The port of 127.0.0.1 on which the station listens.
+    pub port: Option<&'a str>,
+    /// The door, by its socket or the folder in which that is.
+    pub door: Option<&'a str>,
+    /// Ends with the first refusal.
+    pub strict: bool,
 }
 
 /// What `shifts` is given.

@@ -5,8 +5,8 @@ ghost use Rattle.clap.specs.Words.{found_of, rows_of, subcommand_rows_of};
 ghost use Rattle.command_line.specs.Commands.{HasFlag, IsOption, IsSaid, IsSaidBy, text_in};
 
 use crate::command::{
-    Command, DemoOptions, ExplainOptions, ReplayOptions, ReportForm, ReportOptions, SalesOptions,
-    ServeOptions, ShiftsOptions, StationOptions, StoryOptions, VerifyOptions,
+    AskOptions, Command, DemoOptions, ExplainOptions, ReplayOptions, ReportForm, ReportOptions,
+    SalesOptions, ServeOptions, ShiftsOptions, StationOptions, StoryOptions, VerifyOptions,
 };
 use clap::ArgMatches;
 
@@ -38,6 +38,7 @@ fn read_named<'a>(name: &str, words: &ArgMatches<'a>) -> Command<'a>
         "story" => Command::Story(read_story(words)),
         "explain" => Command::Explain(read_explain(words)),
         "spell" => Command::Spell,
+        "ask" => Command::Ask(read_ask(words)),
         _ => Command::ReplayHere,
     }
 }
@@ -156,6 +157,16 @@ fn read_explain<'a>(words: &ArgMatches<'a>) -> ExplainOptions<'a>
         what: find_text(words, "WHAT"),
         shift: find_text(words, "shift"),
         times: is_given(words, "times"),
+    }
+}
+
+fn read_ask<'a>(words: &ArgMatches<'a>) -> AskOptions<'a>
+    ensures { IsSaid (codes "ask") (rows_of (found_of words.now)) (Command.Ask result) }
+{
+    AskOptions {
+        port: find_text(words, "port"),
+        door: find_text(words, "door"),
+        strict: is_given(words, "strict"),
     }
 }
 

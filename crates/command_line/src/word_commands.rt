@@ -5,7 +5,7 @@ ghost use Rattle.clap.specs.Words.{app_of, new_rule};
 ghost use Rattle.command_line.specs.Program.{HasShape, command, flag_rule, option_rule};
 ghost use Rattle.command_line.specs.Program.{with_commands, word_shapes};
 
-use crate::arguments::{flag, shift, what};
+use crate::arguments::{flag, option, shift, what};
 use crate::building::{add_argument, add_command, start};
 use clap::Command;
 use std::alloc::{AllocError, Global};
@@ -15,7 +15,8 @@ pub fn add_commands<'a>(alloc: Global, program: Command<'a>) -> Result<Command<'
     ensures { IfOk result (λ p. app_of p ≡ with_commands (app_of program.entry) word_shapes) }
 {
     let program = add_command(program, explain(alloc)?)?;
-    add_command(program, spell(alloc))
+    let program = add_command(program, spell(alloc))?;
+    add_command(program, ask(alloc)?)
 }
 
 fn explain<'a>(alloc: Global) -> Result<Command<'a>, AllocError>
@@ -40,4 +41,21 @@ fn spell<'a>(alloc: Global) -> Command<'a>
     let about = "Prints the requests that standard input asks for in words, in hexadecimal";
     let example = "Example: forecourt spell < examples/paying_day.words\n";
     start(alloc, "spell", about, example)
+}
+
+fn ask<'a>(alloc: Global) -> Result<Command<'a>, AllocError>
+    ensures { IfOk result (HasShape (command (codes "ask")
+        (option_rule (codes "port") ∷ option_rule (codes "door") ∷ flag_rule (codes "strict")
+        ∷ []))) }
+{
+    let about = "Asks a station that runs for the requests that standard input says in words, and \
+                 prints its replies";
+    let example = "Example: echo 't1 SignOn' | forecourt ask --port 4000\n";
+    let port = "The port of 127.0.0.1 on which the station listens";
+    let door = "The door of the till or dispenser that asks: its socket, or its folder";
+    let strict = "Ends with the first refusal, with status 1";
+    let command = start(alloc, "ask", about, example);
+    let command = add_argument(command, option(alloc, "port", "N", port))?;
+    let command = add_argument(command, option(alloc, "door", "PATH", door))?;
+    add_argument(command, flag(alloc, "strict", strict))
 }

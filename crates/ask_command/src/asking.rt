@@ -1,0 +1,234 @@
+//! A conversation with a station: a line is asked, and its reply waited for.
+
+use crate::run::REPLY_SECONDS;
+use app_message::{Decoder, Message, Messages, Token};
+use devices::{Counted, PIECE_OCTETS, ReadFault, write_whole};
+use forecourt_engines::explain::{Meaning, explain};
+use forecourt_engines::words::{LineFault, WordFault, spell_line};
+use forecourt_engines::{ReplayFault, TextFault};
+use hex_lines::{LINE_OCTETS, LineText, read_octets, text_of};
+use program_io::{FAULT, TURNS, exit_no_memory, exit_replay, exit_unwritten, exit_with, read_line};
+use site_base::NoMemory;
+use std::alloc::Global;
+use std::io::{BufReader, ErrorKind, Read, Write};
+use std::process::ExitCode;
+
+/// Asks for each line of this input, one after another, and prints the replies. With `strict` it
+/// ends with the first one that is refused.
+pub(crate) fn ask_all<R: Print + Eprint + AllocGlobal, I: Read + Drop, S: Read + Write + Drop>(
+    rt: &R,
+    input: I,
+    stream: S,
+    strict: bool,
+) -> ExitCode {
+    let mut reader = match BufReader::new(rt.alloc(), input) {
+        Ok(reader) => reader,
+        Err(_) => return exit_no_memory(rt),
+    };
+    let mut asking = match Asking::new(rt.alloc(), stream) {
+        Ok(asking) => asking,
+        Err(NoMemory) => return exit_no_memory(rt),
+    };
+    let mut line = Vec::new(rt.alloc());
+    for number in 1..u64::MAX {
+        match read_line(rt, &mut reader, &mut line) {
+            Ok(true) => {}
+            Ok(false) => return ExitCode::SUCCESS,
+            Err(status) => return status,
+        }
+        match asking.ask(rt, number, &line) {
+            Ok(Answered::Refused) if strict => return ExitCode::from(FAULT),
+            Ok(_) => {}
+            Err(status) => return status,
+        }
+    }
+    // No text has so many lines.
+    exit_replay(rt, Some(ReplayFault::Read(ReadFault::TurnLimit)))
+}
+
+/// How a line was answered.
+#[derive(Clone, Copy, Debug, PartialEq, Eq)]
+enum Answered {
+    /// It asks for nothing: it is empty, or a comment.
+    NotAsked,
+    /// Its request was done.
+    Done,
+    /// Its request was refused, or a number stands in place of a reply.
+    Refused,
+}
+
+/// A connection to a station, and what came over it so far.
+#[derive(Drop)]
+struct Asking<S> {
+    alloc: Global,
+    stream: S,
+    decoder: Decoder,
+    piece: Vec<u8>,
+    /// The token of the next line that names none.
+    next: Token,
+}
+
+impl<S: Read + Write> Asking<S> {
+    /// Nothing was asked over this stream.
+    fn new(alloc: Global, stream: S) -> Result<Asking<S>, NoMemory> {
+        Ok(Asking {
+            alloc,
+            stream,
+            decoder: Decoder::new(alloc),
+            piece: Vec::from_elem(alloc, 0, PIECE_OCTETS)?,
+            next: Token::new(1).unwrap(),
+        })
+    }
+
+    /// Asks for what the line of this number says, waits for the reply, and prints it.
+    fn ask<R: Print + Eprint>(
+        &mut self,
+        rt: &R,
+        number: u64,
+        line: &[u8],
+    ) -> Result<Answered, ExitCode> {
+        let octets = self.spell(rt, number, line)?;
+        let Some(token) = token_of(rt, self.alloc, &octets)? else {
+            return Ok(Answered::NotAsked);
+        };
+        let mut turns = TURNS;
+        if write_whole(&mut Counted::new(&mut self.stream), &octets, &mut turns).is_err() {
+            return Err(exit_closed(rt));
+        }
+        self.wait(rt, token)
+    }
+
+    /// The octets of the request that the line of this number says; none where it says none.
+    fn spell<R: Print + Eprint>(
+        &mut self,
+        rt: &R,
+        number: u64,
+        line: &[u8],
+    ) -> Result<Vec<u8>, ExitCode> {
+        if line.len() > LINE_OCTETS {
+            return Err(exit_replay(
+                rt,
+                Some(ReplayFault::Text(TextFault::TooLong(number))),
+            ));
+        }
+        let mut text = Vec::new(self.alloc);
+        match spell_line(self.alloc, line, self.next, &mut text) {
+            Ok(then) => self.next = then,
+            Err(LineFault::NoMemory) => return Err(exit_no_memory(rt)),
+            Err(LineFault::Wrong(wrong)) => {
+                let fault = WordFault { line, wrong };
+                return Err(exit_with(eprintln!(rt; "line {number}: {fault}"), FAULT));
+            }
+        }
+        let (mut kept, mut octets) = (Vec::new(self.alloc), Vec::new(self.alloc));
+        match read_octets(text_of(&text), &mut kept, &mut octets) {
+            Ok(LineText::Octets) => Ok(octets),
+            Ok(_) => Ok(Vec::new(self.alloc)),
+            Err(NoMemory) => Err(exit_no_memory(rt)),
+        }
+    }
+
+    /// Waits for the reply to the request of this token. What comes before it is printed, too.
+    fn wait<R: Print + Eprint>(&mut self, rt: &R, token: Token) -> Result<Answered, ExitCode> {
+        for _ in 0..TURNS {
+            let messages = self.hear(rt)?;
+            if let Some(answered) = print_all(rt, self.alloc, &messages, token)? {
+                return Ok(answered);
+            }
+        }
+        Err(exit_replay(
+            rt,
+            Some(ReplayFault::Read(ReadFault::TurnLimit)),
+        ))
+    }
+
+    /// The messages that one read brings.
+    fn hear<R: Print + Eprint>(&mut self, rt: &R) -> Result<Messages, ExitCode> {
+        let read = match self.stream.read(&mut self.piece) {
+            Ok(0) => return Err(exit_closed(rt)),
+            Ok(read) => read,
+            Err(error) => match error.kind() {
+                ErrorKind::Interrupted => 0,
+                ErrorKind::WouldBlock | ErrorKind::TimedOut => return Err(exit_silent(rt)),
+                _ => return Err(exit_closed(rt)),
+            },
+        };
+        match self.decoder.feed(&self.piece[..read]) {
+            Ok(fed) if fed.fault.is_none() => Ok(fed.messages),
+            Ok(_) => Err(exit_with(
+                eprintln!(rt; "what answers is no station"),
+                FAULT,
+            )),
+            Err(NoMemory) => Err(exit_no_memory(rt)),
+        }
+    }
+}
+
+/// The token of the request that these octets are; None where there are none.
+fn token_of<R: Print + Eprint>(
+    rt: &R,
+    alloc: Global,
+    octets: &[u8],
+) -> Result<Option<Token>, ExitCode> {
+    match Decoder::new(alloc).feed(octets) {
+        Ok(fed) => match fed.messages.as_slice().first() {
+            Some(message) => Ok(Some(message.token())),
+            None => Ok(None),
+        },
+        Err(NoMemory) => Err(exit_no_memory(rt)),
+    }
+}
+
+/// Prints messages, and says how the request of this token was answered, if one of them is its
+/// reply.
+fn print_all<R: Print + Eprint>(
+    rt: &R,
+    alloc: Global,
+    messages: &Messages,
+    token: Token,
+) -> Result<Option<Answered>, ExitCode> {
+    let mut answered = None;
+    for message in messages.as_slice() {
+        if let Some(reply) = print_one(rt, alloc, message)? {
+            if message.token() == token {
+                answered = Some(reply);
+            }
+        }
+    }
+    Ok(answered)
+}
+
+/// Prints a message, and says how it answers, if it is a reply.
+fn print_one<R: Print + Eprint>(
+    rt: &R,
+    alloc: Global,
+    message: &Message,
+) -> Result<Option<Answered>, ExitCode> {
+    let Ok(text) = explain(alloc, message) else {
+        return Err(exit_no_memory(rt));
+    };
+    if println!(rt; "{text}").is_err() {
+        return Err(exit_unwritten(rt));
+    }
+    Ok(match text.meaning {
+        Meaning::Told(Ok(_)) => Some(Answered::Done),
+        Meaning::Told(Err(_)) | Meaning::Numbered(_) => Some(Answered::Refused),
+        _ => None,
+    })
+}
+
+/// The station closed the connection before it replied.
+fn exit_closed(rt: &impl Eprint) -> ExitCode {
+    exit_with(
+        eprintln!(rt; "the station closed the connection before it replied"),
+        FAULT,
+    )
+}
+
+/// No reply came in time.
+fn exit_silent(rt: &impl Eprint) -> ExitCode {
+    exit_with(
+        eprintln!(rt; "no reply came within {REPLY_SECONDS} seconds"),
+        FAULT,
+    )
+}

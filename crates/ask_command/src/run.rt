@@ -1,0 +1,91 @@
+//! `forecourt ask --port N | --door PATH [--strict]`.
+
+use crate::asking::ask_all;
+use command_line::AskOptions;
+use program_io::{COMMAND_LINE, FAULT, exit_no_memory, exit_with, is_folder};
+use std::io::Read;
+use std::net::{Ipv4Addr, Net, SocketAddr, SocketAddrV4, TcpListener, TcpStream};
+use std::os::unix::net::UnixStream;
+use std::process::ExitCode;
+use std::rt::Files;
+use std::time::Duration;
+
+/// A reply is waited for so many seconds.
+pub(crate) const REPLY_SECONDS: u64 = 30;
+
+/// Asks a station for what this input says in words, over TCP or at a door.
+pub fn run_ask<
+    R: Files + Net<Listener = TcpListener, Stream = TcpStream> + Print + Eprint + AllocGlobal,
+    I: Read + Drop,
+>(
+    rt: &R,
+    input: I,
+    options: AskOptions<'_>,
+) -> ExitCode {
+    match (options.port, options.door) {
+        (Some(port), None) => match read_port(port) {
+            Some(port) => ask_port(rt, input, port, options.strict),
+            None => exit_with(
+                eprintln!(rt; "--port is a decimal number from 1 to 65535"),
+                COMMAND_LINE,
+            ),
+        },
+        (None, Some(path)) => ask_door(rt, input, path, options.strict),
+        _ => exit_with(
+            eprintln!(rt; "one of --port and --door is wanted"),
+            COMMAND_LINE,
+        ),
+    }
+}
+
+/// The port that a word tells. A sign is no digit.
+fn read_port(word: &str) -> Option<u16> {
+    if word.starts_with('+') {
+        return None;
+    }
+    match word.parse::<u16>() {
+        Ok(0) | Err(_) => None,
+        Ok(port) => Some(port),
+    }
+}
+
+/// Asks at this port of 127.0.0.1.
+fn ask_port<
+    R: Net<Listener = TcpListener, Stream = TcpStream> + Print + Eprint + AllocGlobal,
+    I: Read + Drop,
+>(
+    rt: &R,
+    input: I,
+    port: u16,
+    strict: bool,
+) -> ExitCode {
+    let there = SocketAddr::V4(SocketAddrV4::new(Ipv4Addr::LOCALHOST, port));
+    let Ok(stream) = TcpStream::connect(rt, there) else {
+        return exit_with(eprintln!(rt; "nobody listens on port {port}"), FAULT);
+    };
+    let _ = stream.set_nodelay(true);
+    let _ = stream.set_read_timeout(Some(Duration::from_secs(REPLY_SECONDS)));
+    ask_all(rt, input, stream, strict)
+}
+
+/// Asks at the door of this path: its socket, or the folder in which that is.
+fn ask_door<R: Files + Net + Print + Eprint + AllocGlobal, I: Read + Drop>(
+    rt: &R,
+    input: I,
+    path: &str,
+    strict: bool,
+) -> ExitCode {
+    let socket = if is_folder(rt, path) {
+        format!(in rt.alloc(); "{path}/socket")
+    } else {
+        format!(in rt.alloc(); "{path}")
+    };
+    let Ok(socket) = socket else {
+        return exit_no_memory(rt);
+    };
+    let Ok(stream) = UnixStream::connect(rt, socket.as_str()) else {
+        return exit_with(eprintln!(rt; "nobody listens at {socket}"), FAULT);
+    };
+    let _ = stream.set_read_timeout(Some(Duration::from_secs(REPLY_SECONDS)));
+    ask_all(rt, input, stream, strict)
+}
