@@ -61,22 +61,24 @@ enum Answered {
 #[derive(Drop)]
 struct Asking<S> {
     alloc: Global,
-    stream: S,
+    stream: Counted<S>,
     decoder: Decoder,
     piece: Vec<u8>,
     /// The token of the next line that names none.
     next: Token,
 }
 
-impl<S: Read + Write> Asking<S> {
+impl<S: Read + Write + Drop> Asking<S> {
     /// Nothing was asked over this stream.
     fn new(alloc: Global, stream: S) -> Result<Asking<S>, NoMemory> {
+        let next = Token::new(1).unwrap();
+        let piece = Vec::from_elem(alloc, 0, PIECE_OCTETS)?;
         Ok(Asking {
             alloc,
-            stream,
+            stream: Counted::new(stream),
             decoder: Decoder::new(alloc),
-            piece: Vec::from_elem(alloc, 0, PIECE_OCTETS)?,
-            next: Token::new(1).unwrap(),
+            piece,
+            next,
         })
     }
 
@@ -92,7 +94,7 @@ impl<S: Read + Write> Asking<S> {
             return Ok(Answered::NotAsked);
         };
         let mut turns = TURNS;
-        if write_whole(&mut Counted::new(&mut self.stream), &octets, &mut turns).is_err() {
+        if write_whole(&mut self.stream, &octets, &mut turns).is_err() {
             return Err(exit_closed(rt));
         }
         self.wait(rt, token)
@@ -106,10 +108,7 @@ impl<S: Read + Write> Asking<S> {
         line: &[u8],
     ) -> Result<Vec<u8>, ExitCode> {
         if line.len() > LINE_OCTETS {
-            return Err(exit_replay(
-                rt,
-                Some(ReplayFault::Text(TextFault::TooLong(number))),
-            ));
+            return Err(exit_replay(rt, Some(ReplayFault::Text(TextFault::TooLong(number)))));
         }
         let mut text = Vec::new(self.alloc);
         match spell_line(self.alloc, line, self.next, &mut text) {
@@ -136,10 +135,7 @@ impl<S: Read + Write> Asking<S> {
                 return Ok(answered);
             }
         }
-        Err(exit_replay(
-            rt,
-            Some(ReplayFault::Read(ReadFault::TurnLimit)),
-        ))
+        Err(exit_replay(rt, Some(ReplayFault::Read(ReadFault::TurnLimit))))
     }
 
     /// The messages that one read brings.
@@ -155,10 +151,7 @@ impl<S: Read + Write> Asking<S> {
         };
         match self.decoder.feed(&self.piece[..read]) {
             Ok(fed) if fed.fault.is_none() => Ok(fed.messages),
-            Ok(_) => Err(exit_with(
-                eprintln!(rt; "what answers is no station"),
-                FAULT,
-            )),
+            Ok(_) => Err(exit_with(eprintln!(rt; "what answers is no station"), FAULT)),
             Err(NoMemory) => Err(exit_no_memory(rt)),
         }
     }

@@ -17,11 +17,7 @@ pub(crate) const REPLY_SECONDS: u64 = 30;
 pub fn run_ask<
     R: Files + Net<Listener = TcpListener, Stream = TcpStream> + Print + Eprint + AllocGlobal,
     I: Read + Drop,
->(
-    rt: &R,
-    input: I,
-    options: AskOptions<'_>,
-) -> ExitCode {
+>(rt: &R, input: I, options: AskOptions<'_>) -> ExitCode {
     match (options.port, options.door) {
         (Some(port), None) => match read_port(port) {
             Some(port) => ask_port(rt, input, port, options.strict),
@@ -53,12 +49,7 @@ fn read_port(word: &str) -> Option<u16> {
 fn ask_port<
     R: Net<Listener = TcpListener, Stream = TcpStream> + Print + Eprint + AllocGlobal,
     I: Read + Drop,
->(
-    rt: &R,
-    input: I,
-    port: u16,
-    strict: bool,
-) -> ExitCode {
+>(rt: &R, input: I, port: u16, strict: bool) -> ExitCode {
     let there = SocketAddr::V4(SocketAddrV4::new(Ipv4Addr::LOCALHOST, port));
     let Ok(stream) = TcpStream::connect(rt, there) else {
         return exit_with(eprintln!(rt; "nobody listens on port {port}"), FAULT);

@@ -4,6 +4,7 @@
 //! their files, texts and exit statuses in `program_io`.
 #![tactic(auto)]
 
+use ask_command::run_ask;
 use command_line::{Command, ExplainOptions, NoCommand, parse};
 use desk_commands::{run_demo, run_serve};
 use offline_commands::{
@@ -73,6 +74,7 @@ fn run<T: Threads + Wait + Sync>(rt: &HostRuntime, threads: &T, command: Command
             None => run_explain(rt, input, options),
         },
         Command::Spell => run_spell(rt, input),
+        Command::Ask(options) => run_ask(rt, input, options),
     }
 }
 
