@@ -41,74 +41,74 @@ def told(*texts):
 @test
 def each_line_is_asked_and_its_reply_told():
     """Comments and empty lines ask nothing. A token may be named. A refusal doesn't end it."""
-    day = start_station("--port", 0)
-    lines = (
-        "# the morning\n\nt1 SignOn\nt1 SetPrice 2 1799, token 9\nt1 Open 1\n"
-        "t1 Open 64\nt1 ReadProduct 2\nt1 SignOff\n"
-    )
-    told_product = (
-        "to t1, token 4: ProductIs{price 1799, metered 0, running 0, payable 0, locked 0, "
-        "cleared 0, adjusted 0}"
-    )
-    wanted = told(
-        "to t1, token 1: Done", "to t1, token 9: Done", "to t1, token 2: Done",
-        "to t1, token 3: 3 NoSuchPoint", told_product, "to t1, token 5: Done",
-    )  # fmt: skip
-    expect_end("asked on a port", ask(lines, "--port", day.port), 0, wanted)
-    report = end(day)
-    expect("rows", report.splitlines()[0], "rows 5")
+    with start_station("--port", 0) as day:
+        lines = (
+            "# the morning\n\nt1 SignOn\nt1 SetPrice 2 1799, token 9\nt1 Open 1\n"
+            "t1 Open 64\nt1 ReadProduct 2\nt1 SignOff\n"
+        )
+        told_product = (
+            "to t1, token 4: ProductIs{price 1799, metered 0, running 0, payable 0, locked 0, "
+            "cleared 0, adjusted 0}"
+        )
+        wanted = told(
+            "to t1, token 1: Done", "to t1, token 9: Done", "to t1, token 2: Done",
+            "to t1, token 3: 3 NoSuchPoint", told_product, "to t1, token 5: Done",
+        )  # fmt: skip
+        expect_end("asked on a port", ask(lines, "--port", day.port), 0, wanted)
+        report = end(day)
+        expect("rows", report.splitlines()[0], "rows 5")
 
 
 @test
 def strict_ends_with_the_first_refusal():
-    day = start_station("--port", 0)
-    lines = "t1 SignOn\nt1 Open 64\nt1 Open 1\n"
-    wanted = told("to t1, token 1: Done", "to t1, token 2: 3 NoSuchPoint")
-    expect_end("strict", ask(lines, "--strict", "--port", day.port), 1, wanted)
-    # What came behind it wasn't asked, and the session's end has signed the till off.
-    again = told("to t1, token 1: Done", "to t1, token 2: Done", "to t1, token 3: Done")
-    lines = "t1 SignOn\nt1 Open 1\nt1 SignOff\n"
-    expect_end("asked again", ask(lines, "--strict", "--port", day.port), 0, again)
-    end(day)
+    with start_station("--port", 0) as day:
+        lines = "t1 SignOn\nt1 Open 64\nt1 Open 1\n"
+        wanted = told("to t1, token 1: Done", "to t1, token 2: 3 NoSuchPoint")
+        expect_end("strict", ask(lines, "--strict", "--port", day.port), 1, wanted)
+        # What came behind it wasn't asked, and the session's end has signed the till off.
+        again = told("to t1, token 1: Done", "to t1, token 2: Done", "to t1, token 3: Done")
+        lines = "t1 SignOn\nt1 Open 1\nt1 SignOff\n"
+        expect_end("asked again", ask(lines, "--strict", "--port", day.port), 0, again)
+        end(day)
 
 
 @test
 def a_line_of_another_is_answered_57():
-    day = start_station("--port", 0)
-    wanted = told("to t1, token 1: Done", "to t2, token 2: 57 OriginatorChanged")
-    expect_end("another", ask("t1 SignOn\nt2 SignOn\n", "--port", day.port), 0, wanted)
-    lines = "t1 SignOn\nt2 SignOn\nt1 SignOff\n"
-    expect_end("and one more", ask(lines, "--port", day.port), 1, wanted, NOBODY)
-    end(day)
+    with start_station("--port", 0) as day:
+        wanted = told("to t1, token 1: Done", "to t2, token 2: 57 OriginatorChanged")
+        expect_end("another", ask("t1 SignOn\nt2 SignOn\n", "--port", day.port), 0, wanted)
+        lines = "t1 SignOn\nt2 SignOn\nt1 SignOff\n"
+        expect_end("and one more", ask(lines, "--port", day.port), 1, wanted, NOBODY)
+        end(day)
 
 
 @test
 def at_a_door():
     """The door is named by its folder or its socket. There only its own node is heard."""
     doors = HERE / "doors"
-    for name in ("t1", "d1"):
+    for name in ("till-01", "dispenser-01"):
         (doors / name).mkdir(parents=True)
-    day = start_station("--doors", doors)
-    lines = "t1 SignOn\nt1 SignOff\n"
-    wanted = told("to t1, token 1: Done", "to t1, token 2: Done")
-    for path in (doors / "t1", doors / "t1" / "socket"):
-        expect_end(f"at {path.name}", ask(lines, "--door", path, "--strict"), 0, wanted)
-    wanted = told("to t1, token 1: 57 OriginatorChanged")
-    expect_end("at another's", ask(lines, "--door", doors / "d1", "--strict"), 1, wanted)
-    end(day)
+    with start_station("--doors", doors) as day:
+        lines = "t1 SignOn\nt1 SignOff\n"
+        wanted = told("to t1, token 1: Done", "to t1, token 2: Done")
+        for path in (doors / "till-01", doors / "till-01" / "socket"):
+            expect_end(f"at {path.name}", ask(lines, "--door", path, "--strict"), 0, wanted)
+        wanted = told("to t1, token 1: 57 OriginatorChanged")
+        expect_end("at another's", ask(lines, "--door", doors / "dispenser-01", "--strict"), 1, wanted)
+        end(day)
 
 
 @test
 def what_is_no_request():
-    day = start_station("--port", 0)
-    why = "line 2: word 3 is missing: a fuelling point, 1 to 64"
-    end_of_it = ask("t1 SignOn\nt1 Open\nt1 Open 1\n", "--port", day.port)
-    expect_end("a word is missing", end_of_it, 1, told("to t1, token 1: Done"), why)
-    end_of_it = ask("#" + " " * 65_536, "--port", day.port)
-    expect_end("too long", end_of_it, 1, b"", "line 1: too long")
-    end_of_it = ask(None, "--port", day.port, preexec_fn=close_input)
-    expect_end("without standard input", end_of_it, 1, b"", "fault 61")
-    end(day)
+    with start_station("--port", 0) as day:
+        why = "line 2: word 3 is missing: a fuelling point, 1 to 64"
+        end_of_it = ask("t1 SignOn\nt1 Open\nt1 Open 1\n", "--port", day.port)
+        expect_end("a word is missing", end_of_it, 1, told("to t1, token 1: Done"), why)
+        end_of_it = ask("#" + " " * 65_536, "--port", day.port)
+        expect_end("too long", end_of_it, 1, b"", "line 1: too long")
+        end_of_it = ask(None, "--port", day.port, preexec_fn=close_input)
+        expect_end("without standard input", end_of_it, 1, b"", "fault 61")
+        end(day)
 
 
 @test

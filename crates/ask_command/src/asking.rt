@@ -119,10 +119,8 @@ impl<S: Read + Write + Drop> Asking<S> {
                 return Err(exit_with(eprintln!(rt; "line {number}: {fault}"), FAULT));
             }
         }
-        let (mut kept, mut octets) = (Vec::new(self.alloc), Vec::new(self.alloc));
-        match read_octets(text_of(&text), &mut kept, &mut octets) {
-            Ok(LineText::Octets) => Ok(octets),
-            Ok(_) => Ok(Vec::new(self.alloc)),
+        match octets_of(self.alloc, &mut text) {
+            Ok(octets) => Ok(octets),
             Err(NoMemory) => Err(exit_no_memory(rt)),
         }
     }
@@ -154,6 +152,18 @@ impl<S: Read + Write + Drop> Asking<S> {
             Ok(_) => Err(exit_with(eprintln!(rt; "what answers is no station"), FAULT)),
             Err(NoMemory) => Err(exit_no_memory(rt)),
         }
+    }
+}
+
+/// The octets of a line of hexadecimal with its line feed; of a comment, and of an empty line, none.
+fn octets_of(alloc: Global, line: &mut Vec<u8>) -> Result<Vec<u8>, NoMemory> {
+    if line.last() == Some(&b'\n') {
+        line.pop();
+    }
+    let (mut kept, mut octets) = (Vec::new(alloc), Vec::new(alloc));
+    match read_octets(text_of(line), &mut kept, &mut octets)? {
+        LineText::Octets => Ok(octets),
+        LineText::Skipped | LineText::NotHexadecimal => Ok(Vec::new(alloc)),
     }
 }
 

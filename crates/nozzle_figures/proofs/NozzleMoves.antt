@@ -1,24 +1,28 @@
 -- What rows do at one nozzle.
 use Rattle.std.proofs.Common.{◌≡◌, ◌⊎◌, inl, inr, ℕ, ◌+◌, ◌-◌, ◌≤◌, ◌==◌, ◌&&◌, Bool, true, false}
 use Rattle.std.proofs.Common.{List, [], ◌∷◌, Option, Some, None, refl, ap, sym, ◌∙◌, arith}
-use Rattle.std.specs.Prelude.{if◌then◌else◌, option_map, unwrap_or}
+use Rattle.std.specs.Prelude.{if◌then◌else◌, not, option_map, unwrap_or}
 use Rattle.std.proofs.lemmas.Bool.{and_parts}
 use Rattle.std.proofs.lemmas.Bool.Decides.{nat_tests}
 use Rattle.std.proofs.lemmas.Grind.{common_steps}
 use Rattle.site_base.specs.declared.actor.Actor.{Actor}
 use Rattle.site_base.specs.declared.event.Event.{Event}
-use Rattle.site_base.specs.declared.event.Event.TheVariants.{Flow, HangUp, ReplaceMeter}
+use Rattle.site_base.specs.declared.event.Event.TheVariants.{Flow, HangUp, Lift, ReplaceMeter}
 use Rattle.site_base.specs.declared.refusal.Refusal.{Refusal}
 use Rattle.site_base.specs.declared.row.Row.{Row}
 use Rattle.fuelling_point.specs.declared.event.PointEvent.{PointEvent}
 use Rattle.fuelling_point.specs.declared.event.PointEvent.TheVariants as points
 use Rattle.site_base.specs.Table.{row_of}
+use Rattle.site_base.specs.Checks.{value_or}
+use Rattle.site_base.specs.Events.{nozzle_named, point_named, reading_carried}
+use Rattle.site_base.specs.declared.refusal.Refusal.TheVariants.{MeterGap}
 use Rattle.site_base.specs.declared.state.PointState.TheVariants as states
 use Rattle.fuelling_point.specs.KeptPoints.{Facts, growth_of, is_under_way, volume_of}
 use Rattle.fuelling_point.specs.Laws.{drawn_in, sold_in}
 use Rattle.fuelling_point.specs.Step.{after, step_of}
 use Rattle.fuelling_point.proofs.Whole.{conserved}
-use Rattle.meters.specs.declared.report.Report.TheVariants.{Growing}
+use Rattle.meters.specs.declared.report.Report.TheVariants.{Growing, Still}
+use Rattle.meters.specs.Reports.{report_refusal}
 use Rattle.meters.specs.Nozzles.{Nozzle, has_nozzle, reading_of, replaced_at, read_at, with_last}
 use Rattle.meters.specs.Nozzles.{nozzle_of, with_meter, with_nozzle}
 use Rattle.meters.proofs.Lookups.{KeepsName, nozzle_of-here, nozzle_of-other, there}
@@ -44,7 +48,7 @@ use Rattle.written_site.proofs.SoundTables.{itself, row_of-same, same}
 use Rattle.written_site.proofs.SoundReports.{flow_is_out, hung_up_is_out}
 use Rattle.written_site.proofs.SoundReports.{reading_elsewhere}
 use Rattle.written_site.proofs.SoundSold.{own_point}
-use Rattle.nozzle_figures.specs.Laws.{EachNozzleAddsUp}
+use Rattle.nozzle_figures.specs.Laws.{EachNozzleAddsUp, EachReadingIsCounted}
 use Rattle.nozzle_figures.specs.NozzleMoves.{by_nozzle, drawing, falling, flowing, is_of_nozzle}
 use Rattle.nozzle_figures.specs.NozzleMoves.{is_out, of_accepted, rising, running_by_nozzle}
 use Rattle.nozzle_figures.specs.NozzleMoves.{selling, sum_over}
@@ -374,3 +378,57 @@ each_nozzle_adds_up = λ s rows p n sound range has. record {
   counter = counter_over p n s rows sound range has;
   volumes = volumes_over p n s rows sound range;
 }
+
+-- ---- a reading
+
+named_reading : (p n q m r reading : ℕ) (xs : List Nozzle) (change : Nozzle → Nozzle)
+    → KeepsName change → has_nozzle p n xs ≡ true → ((x : Nozzle) → (change x).last ≡ r)
+    → q ≡ p → m ≡ n → r ≡ reading → reading_of p n (with_nozzle q m change xs) ≡ reading
+named_reading p n q m r reading xs change keeps has reads point nozzle carried =
+    read_changed p n q m r change xs keeps has reads
+    ∙ ap (λ (b : Bool). if b then r else reading_of p n xs)
+    (ap (λ (k : ℕ). k == p && m == n) point ∙ ap (λ (k : ℕ). p == p && k == n) nozzle
+    ∙ ap (λ (b : Bool). b && n == n) (itself p) ∙ itself n)
+    ∙ carried
+
+-- a nozzle that is lifted reads what it read last
+still_reading : (last reading : ℕ) → report_refusal Still last reading ≡ None → last ≡ reading
+still_reading last reading accepted = by_test (reading == last) refl accepted
+  where
+    by_test : (b : Bool) → (reading == last) ≡ b
+        → (if not b then Some (MeterGap last) else None) ≡ None → last ≡ reading
+    by_test true is accepted = sym (same reading last is)
+    by_test false is accepted = absurd (cc)
+
+same_some : (a b : ℕ) → ◌≡◌ {A = Option ℕ} (Some a) (Some b) → a ≡ b
+same_some a b is = cc
+
+-- the reading of a row is the last one then
+reads_last : (p n reading : ℕ) (s : SiteState) (e : Event) → IsTaken s e
+    → has_nozzle p n s.nozzles ≡ true → point_named e ≡ Some p → nozzle_named e ≡ Some n
+    → reading_carried e ≡ Some reading → reading_of p n (nozzles_after s e) ≡ reading
+reads_last p n reading s (Flow q m r) taken has point nozzle carried =
+    named_reading p n q m r reading s.nozzles (read_at r) (read_keeps r) has (λ x. refl)
+    (same_some q p point) (same_some m n nozzle) (same_some r reading carried)
+reads_last p n reading s (HangUp q m r) taken has point nozzle carried =
+    named_reading p n q m r reading s.nozzles (read_at r) (read_keeps r) has (λ x. refl)
+    (same_some q p point) (same_some m n nozzle) (same_some r reading carried)
+reads_last p n reading s (ReplaceMeter q m r) taken has point nozzle carried =
+    named_reading p n q m r reading s.nozzles (replaced_at r) (replaced_keeps r) has (λ x. refl)
+    (same_some q p point) (same_some m n nozzle) (same_some r reading carried)
+reads_last p n reading s (Lift q m r) taken has point nozzle carried =
+    ap (λ (k : ℕ). reading_of k n s.nozzles) (sym (same_some q p point))
+    ∙ ap (λ (k : ℕ). reading_of q k s.nozzles) (sym (same_some m n nozzle))
+    ∙ still_reading (reading_of q m s.nozzles) r taken.reads ∙ same_some r reading carried
+reads_last p n reading s e taken has point nozzle carried = absurd (cc)
+
+pub each_reading_is_counted : EachReadingIsCounted
+each_reading_is_counted = λ s r p n reading sound range has point nozzle carried accepted.
+    let counts = counts_row p n s r sound range has in
+    let passes = passed s r.actor r.event accepted in
+    let taken = taken_when_passed s r.actor r.event range passes in
+    let last : reading_of p n (site_after s r.actor r.event).nozzles ≡ reading =
+    ap (λ (o : Option Refusal).
+    reading_of p n (value_or o (accepted_site s r.actor r.event) s).nozzles) accepted
+    ∙ reads_last p n reading s r.event taken has point nozzle carried in
+    record { last = last; counted = omega (arith, counts.counter, last) }

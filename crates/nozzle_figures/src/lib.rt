@@ -4,4 +4,4 @@
 
 mod laws;
 
-pub use laws::{each_nozzle_adds_up, each_product_adds_up};
+pub use laws::{each_nozzle_adds_up, each_product_adds_up, each_reading_is_counted};
