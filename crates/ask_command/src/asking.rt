@@ -1,5 +1,6 @@
 //! A conversation with a station: a line is asked, and its reply waited for.
 
+use crate::lines::Lines;
 use crate::run::REPLY_SECONDS;
 use app_message::{Decoder, Message, Messages, Token};
 use devices::{Counted, PIECE_OCTETS, ReadFault, write_whole};
@@ -7,39 +8,36 @@ use forecourt_engines::explain::{Meaning, explain};
 use forecourt_engines::words::{LineFault, WordFault, spell_line};
 use forecourt_engines::{ReplayFault, TextFault};
 use hex_lines::{LINE_OCTETS, LineText, read_octets, text_of};
-use program_io::{FAULT, TURNS, exit_no_memory, exit_replay, exit_unwritten, exit_with, read_line};
+use program_io::{FAULT, TURNS, exit_no_memory, exit_replay, exit_unwritten, exit_with};
 use site_base::NoMemory;
 use std::alloc::Global;
-use std::io::{BufReader, ErrorKind, Read, Write};
+use std::io::{ErrorKind, Read, Write};
 use std::process::ExitCode;
 
 /// Asks for each line of this input, one after another, and prints the replies. With `strict` it
 /// ends with the first one that is refused.
 pub(crate) fn ask_all<R: Print + Eprint + AllocGlobal, I: Read + Drop, S: Read + Write + Drop>(
     rt: &R,
-    input: I,
+    lines: Lines<I>,
     stream: S,
     strict: bool,
 ) -> ExitCode {
-    let mut reader = match BufReader::new(rt.alloc(), input) {
-        Ok(reader) => reader,
-        Err(_) => return exit_no_memory(rt),
-    };
     let mut asking = match Asking::new(rt.alloc(), stream) {
         Ok(asking) => asking,
         Err(NoMemory) => return exit_no_memory(rt),
     };
-    let mut line = Vec::new(rt.alloc());
-    for number in 1..u64::MAX {
-        match read_line(rt, &mut reader, &mut line) {
-            Ok(true) => {}
-            Ok(false) => return ExitCode::SUCCESS,
-            Err(status) => return status,
+    let mut lines = lines;
+    for _ in 0..u64::MAX {
+        if !lines.is_there {
+            return ExitCode::SUCCESS;
         }
-        match asking.ask(rt, number, &line) {
+        match asking.ask(rt, lines.number, &lines.line) {
             Ok(Answered::Refused) if strict => return ExitCode::from(FAULT),
             Ok(_) => {}
             Err(status) => return status,
+        }
+        if let Err(status) = lines.advance(rt) {
+            return status;
         }
     }
     // No text has so many lines.

@@ -2,6 +2,7 @@
 #![tactic(auto)]
 
 mod asking;
+mod lines;
 mod run;
 
 pub use run::run_ask;

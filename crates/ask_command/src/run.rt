@@ -1,6 +1,7 @@
 //! `forecourt ask --port N | --door PATH [--strict]`.
 
 use crate::asking::ask_all;
+use crate::lines::Lines;
 use command_line::AskOptions;
 use program_io::{COMMAND_LINE, FAULT, exit_no_memory, exit_with, is_folder};
 use std::io::Read;
@@ -18,19 +19,44 @@ pub fn run_ask<
     R: Files + Net<Listener = TcpListener, Stream = TcpStream> + Print + Eprint + AllocGlobal,
     I: Read + Drop,
 >(rt: &R, input: I, options: AskOptions<'_>) -> ExitCode {
+    let there = match read_place(rt, &options) {
+        Ok(there) => there,
+        Err(status) => return status,
+    };
+    let lines = match Lines::open(rt, input) {
+        Ok(lines) => lines,
+        Err(status) => return status,
+    };
+    match there {
+        Place::Port(port) => ask_port(rt, lines, port, options.strict),
+        Place::Door(path) => ask_door(rt, lines, path, options.strict),
+    }
+}
+
+/// Where a station is asked.
+#[derive(Clone, Copy, Debug, PartialEq, Eq)]
+enum Place<'a> {
+    /// On this port.
+    Port(u16),
+    /// At the door of this path.
+    Door(&'a str),
+}
+
+/// Where the words say that a station is asked. Just one of port and door is to be given.
+fn read_place<'a>(rt: &impl Eprint, options: &AskOptions<'a>) -> Result<Place<'a>, ExitCode> {
     match (options.port, options.door) {
         (Some(port), None) => match read_port(port) {
-            Some(port) => ask_port(rt, input, port, options.strict),
-            None => exit_with(
+            Some(port) => Ok(Place::Port(port)),
+            None => Err(exit_with(
                 eprintln!(rt; "--port is a decimal number from 1 to 65535"),
                 COMMAND_LINE,
-            ),
+            )),
         },
-        (None, Some(path)) => ask_door(rt, input, path, options.strict),
-        _ => exit_with(
+        (None, Some(path)) => Ok(Place::Door(path)),
+        _ => Err(exit_with(
             eprintln!(rt; "one of --port and --door is wanted"),
             COMMAND_LINE,
-        ),
+        )),
     }
 }
 
@@ -49,20 +75,20 @@ fn read_port(word: &str) -> Option<u16> {
 fn ask_port<
     R: Net<Listener = TcpListener, Stream = TcpStream> + Print + Eprint + AllocGlobal,
     I: Read + Drop,
->(rt: &R, input: I, port: u16, strict: bool) -> ExitCode {
+>(rt: &R, lines: Lines<I>, port: u16, strict: bool) -> ExitCode {
     let there = SocketAddr::V4(SocketAddrV4::new(Ipv4Addr::LOCALHOST, port));
     let Ok(stream) = TcpStream::connect(rt, there) else {
         return exit_with(eprintln!(rt; "nobody listens on port {port}"), FAULT);
     };
     let _ = stream.set_nodelay(true);
     let _ = stream.set_read_timeout(Some(Duration::from_secs(REPLY_SECONDS)));
-    ask_all(rt, input, stream, strict)
+    ask_all(rt, lines, stream, strict)
 }
 
 /// Asks at the door of this path: its socket, or the folder in which that is.
 fn ask_door<R: Files + Net + Print + Eprint + AllocGlobal, I: Read + Drop>(
     rt: &R,
-    input: I,
+    lines: Lines<I>,
     path: &str,
     strict: bool,
 ) -> ExitCode {
@@ -78,5 +104,5 @@ fn ask_door<R: Files + Net + Print + Eprint + AllocGlobal, I: Read + Drop>(
         return exit_with(eprintln!(rt; "nobody listens at {socket}"), FAULT);
     };
     let _ = stream.set_read_timeout(Some(Duration::from_secs(REPLY_SECONDS)));
-    ask_all(rt, input, stream, strict)
+    ask_all(rt, lines, stream, strict)
 }
