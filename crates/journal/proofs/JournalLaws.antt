@@ -2,7 +2,7 @@
 use Rattle.std.proofs.Common.{◌≡◌, ℕ, Bool, true, false, List, [], ◌∷◌, ◌++◌, length, take, drop}
 use Rattle.std.proofs.Common.{Option, Some, None, refl, sym, ap, ◌∙◌, append_assoc}
 use Rattle.std.proofs.Common.{arith, inl, inr, subst}
-use Rattle.std.specs.Prelude.{◌==◌, IfSome, if◌then◌else◌}
+use Rattle.std.specs.Prelude.{◌==◌, IfSome}
 use Rattle.std.proofs.lemmas.Bool.{eqb-true}
 use Rattle.std.proofs.lemmas.List.{take-append-drop, take_all}
 use Rattle.site_base.specs.declared.actor.Actor.{Actor}
@@ -14,7 +14,6 @@ use Rattle.kept_history.proofs.LeftOut.{left_out as reads_can_be_left_out}
 use Rattle.written_site.specs.SiteRun.{IsLegal, events_of, site_of_rows}
 use Rattle.written_site.specs.SiteState.{opening}
 use Rattle.site_book.specs.Book.{Book}
-use Rattle.station.specs.Reads.{owed_at}
 use Rattle.station.specs.Runs.{opening_station}
 use Rattle.station.proofs.Keeping.{books_keep}
 use Rattle.chapters.specs.ChapterReading.{HistoryRead, nothing_read, read_from, read_lines}
@@ -34,9 +33,8 @@ use Rattle.journal.specs.Laws.{StampsRise, StationsRowsAreSent, StoredRowsAreFou
 use Rattle.journal.specs.Laws.{ToldRowsAreFoundAgain, WritesRising}
 use Rattle.journal.specs.Lives.{end_of}
 use Rattle.journal.specs.Readings.{TellsWhole, texts_of}
-use Rattle.journal.specs.Stored.{GrowsByRound, HoldsRows, IsJournalOf, JournalState, StoredState}
+use Rattle.journal.specs.Stored.{GrowsByRound, HoldsRows, IsJournalOf, JournalState}
 use Rattle.journal.specs.Stored.{has_stored}
-use Rattle.journal.specs.Stored.{is_all_stored, told_at}
 use Rattle.journal.proofs.Lives.{goes_for_life, told_whole}
 use Rattle.journal.proofs.Moves.{forgotten_are_sent, rows_are_sent}
 
@@ -137,14 +135,6 @@ stored_rows_are_found_again site m n config rows b legal same tells goes (inr ba
 
 -- ---- what is told
 
--- where something may be told, each row is stored
-pub told_stored : (s : StoredState) (key : ℕ) → (told_at s key ≡ [] → ⊥) → is_all_stored s ≡ true
-told_stored s key some = by_test (is_all_stored s) some
-  where
-    by_test : (t : Bool) → ((if t then owed_at s.station key else []) ≡ [] → ⊥) → t ≡ true
-    by_test true some = refl
-    by_test false some = absurd (some refl)
-
 pub holds_all : (rows : List Row) (j : JournalState) (f : DiskFile) → IsJournalOf rows j
     → (j.stored == length rows) ≡ true → j.file ≡ Some f
     → HoldsRows j.site (kept_rows rows) j.failed j.end f
@@ -156,12 +146,12 @@ holds_all rows j f is all there =
     (subst (OfFile (HoldsRows j.site (kept_first j.stored rows) j.failed j.end)) there is.holds)
 
 pub told_rows_are_found_again : ToldRowsAreFoundAgain
-told_rows_are_found_again s j f key life b stored has there some lives same read =
+told_rows_are_found_again s j f life b stored has there told lives same read =
     let rows = s.station.book.rows in
     let is : IsJournalOf rows j =
     subst (λ (o : Option JournalState). IfSome o (IsJournalOf rows)) has stored.journal in
     let all : has_stored (length rows) (Some j) ≡ true =
-    ap (has_stored (length rows)) (sym has) ∙ told_stored s key some in
+    ap (has_stored (length rows)) (sym has) ∙ told in
     let holds = holds_all rows j f is all there in
     let config = s.station.book.config in
     let enough = reads_can_be_left_out (opening config) rows stored.legal in

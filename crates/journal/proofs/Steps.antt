@@ -1,9 +1,8 @@
--- What was sent stays through a station's life.
-use Rattle.std.proofs.Common.{◌≡◌, ◌∙◌, ℕ, zero, suc, ◌==◌, Bool, true, false, List, [], ◌∷◌}
-use Rattle.std.proofs.Common.{◌++◌, Option, Some, None, refl, sym, ap, inl, subst, take}
+-- What was told stays through a station's life.
+use Rattle.std.proofs.Common.{◌≡◌, ◌∙◌, ℕ, zero, suc, true, List, [], ◌∷◌}
+use Rattle.std.proofs.Common.{◌++◌, Option, Some, None, refl, sym, ap, inl, subst}
 use Rattle.std.proofs.Common.{append_assoc, append-nil}
-use Rattle.std.proofs.Math.Seq.{take-nil}
-use Rattle.std.specs.Prelude.{IfSome, if◌then◌else◌, length}
+use Rattle.std.specs.Prelude.{IfSome, length}
 use Rattle.site_base.specs.declared.actor.Actor.{Actor}
 use Rattle.site_base.specs.declared.actor.Actor.TheVariants.{Till}
 use Rattle.site_base.specs.declared.event.Event.{Event}
@@ -17,24 +16,23 @@ use Rattle.written_site.specs.SiteRun.{IsLegal, events_of}
 use Rattle.written_site.specs.SiteState.{opening}
 use Rattle.site_book.specs.Book.{Book, next_row, with_row_of}
 use Rattle.site_book.proofs.Books.{forgets_alone}
-use Rattle.station.specs.Runs.{Move, Takes}
+use Rattle.station.specs.Runs.{Move}
 use Rattle.station.proofs.Keeping.{ForgetsKeep, RowsKeep, books_keep, left_keeps}
 use Rattle.chapters.specs.Lines.{unfinished}
 use Rattle.chapters.proofs.Kept.{kept_again, kept_both}
 use Rattle.journal.specs.Disks.{BeginsWith, DiskFile, GoesOn, Moment, OfFile, OfFiles, moment_of}
 use Rattle.journal.specs.Disks.{shown_of}
 use Rattle.journal.specs.Disks as disks
-use Rattle.journal.specs.Laws.{BeginsWithRows, KeepsFirst, SentRowsStay}
+use Rattle.journal.specs.Laws.{BeginsWithRows, KeepsFirst, ToldRowsStay}
 use Rattle.journal.specs.Lives.{end_of}
 use Rattle.journal.specs.Opening.{Reopens, tills_off}
 use Rattle.journal.specs.Readings.{TellsWhole}
 use Rattle.journal.specs.Recovering.{KeepsWholeLines}
-use Rattle.journal.specs.Steps.{AreSteps, Calls, IsRestart, IsStep, Moves, Restart, Restarts, Step}
-use Rattle.journal.specs.Steps.{after_step, after_steps, is_restart, is_restart_of, sent_with}
+use Rattle.journal.specs.Steps.{AreSteps, Calls, Gates, IsRestart, IsStep, Moves, Restart, Restarts, Step}
+use Rattle.journal.specs.Steps.{after_step, after_steps, is_restart, is_restart_of}
 use Rattle.journal.specs.Stored.{IsJournalOf, JournalGoesOn, JournalState, StoredState, has_stored}
-use Rattle.journal.specs.Stored.{told_at}
 use Rattle.journal.proofs.Fronts.{goes_then}
-use Rattle.journal.proofs.JournalLaws.{holds_all, stored_rows_are_found_again, told_stored}
+use Rattle.journal.proofs.JournalLaws.{holds_all, stored_rows_are_found_again}
 use Rattle.journal.proofs.Lives.{goes_for_life, goes_on_step, told_whole}
 
 -- ---- rows
@@ -204,6 +202,15 @@ module _ (site : List ℕ) (config : Configured) (told : List Row) (at : Moment)
   step_keeps : (step : Step) (s : StoredState) → IsStep step s → Keeps site config told at s
       → Keeps site config told at (after_step step s)
   step_keeps (Moves move) s is keeps = moved move s keeps
+  step_keeps (Gates gates) s is keeps = record {
+    rows = keeps.rows;
+    journal = keeps.journal;
+    there = keeps.there;
+    named = keeps.named;
+    file = keeps.file;
+    known = keeps.known;
+    goes = keeps.goes;
+  }
   step_keeps (Calls later) s is keeps = called later s is keeps
   step_keeps (Restarts r) s is keeps =
       restarted r keeps.file keeps.goes
@@ -220,27 +227,16 @@ module _ (site : List ℕ) (config : Configured) (told : List Row) (at : Moment)
   steps_keep (step ∷ steps) s are keeps =
       steps_keep steps (after_step step s) are.1 (step_keeps step s are.0 keeps)
 
--- ---- what is sent
+-- ---- what is told
 
--- .. may be told then
-sent_told : (key : ℕ) (step : Step) (s : StoredState) → (sent_with key step s ≡ [] → ⊥)
-    → told_at s key ≡ [] → ⊥
-sent_told key (Moves (Takes j n)) s sent none = sent (by_key (j == key))
-  where
-    by_key : (b : Bool) → (if b then take n (told_at s key) else []) ≡ []
-    by_key true = ap (take n) none ∙ take-nil {A = ℕ} n
-    by_key false = refl
-sent_told key step s sent none = absurd (sent refl)
-
-pub sent_rows_stay : SentRowsStay
-sent_rows_stay s j f key step steps stored has there sent are =
+pub told_rows_stay : ToldRowsStay
+told_rows_stay s j f steps stored has there told are =
     let rows = s.station.book.rows in
     let config = s.station.book.config in
     let is : IsJournalOf rows j =
     subst (λ (o : Option JournalState). IfSome o (IsJournalOf rows)) has stored.journal in
     let all : has_stored (length rows) (Some j) ≡ true =
-    ap (has_stored (length rows)) (sym has)
-    ∙ told_stored s key (sent_told key step s sent) in
+    ap (has_stored (length rows)) (sym has) ∙ told in
     let holds = holds_all rows j f is all there in
     let enough = reads_can_be_left_out (opening config) rows stored.legal in
     let tell : Tell j.site config (kept_rows rows) holds.at = record {
@@ -248,7 +244,7 @@ sent_rows_stay s j f key step steps stored has there sent are =
       legal = enough.legal;
       kept = kept_again rows;
     } in
-    (steps_keep j.site config (kept_rows rows) holds.at tell (step ∷ steps) s are (record {
+    (steps_keep j.site config (kept_rows rows) holds.at tell steps s are (record {
       rows = record {
         same = refl;
         first = record { more = []; parts = sym (append-nil (kept_rows rows)) };

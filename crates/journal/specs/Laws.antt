@@ -1,5 +1,5 @@
 -- What holds of every journal: what is found again after a crash, and what is never refused.
-use Rattle.std.specs.Prelude.{◌≡◌, ℕ, List, [], ◌∷◌, ◌++◌, IfSome, Option, Some, false, take, true}
+use Rattle.std.specs.Prelude.{◌≡◌, ℕ, List, ◌++◌, IfSome, Option, Some, false, take, true}
 use Rattle.std.specs.Prelude.{⊤}
 use Rattle.std.specs.List.{AllByRecursion}
 use Rattle.site_base.specs.declared.limits.TheConstants.{POINTS, TILLS}
@@ -22,8 +22,8 @@ use Rattle.journal.specs.Disks.{DiskFile, GoesOn, Grows, Moment, moment_of, show
 use Rattle.journal.specs.Lives.{IsLife, end_of}
 use Rattle.journal.specs.Readings.{IsRead, TellsNothing, TellsWhole, texts_of}
 use Rattle.journal.specs.Stored.{GrowsByLines, IsJournalOf, IsStored, JournalState, StoredState}
-use Rattle.journal.specs.Steps.{AreSteps, Step, after_steps, sent_with}
-use Rattle.journal.specs.Stored.{told_at}
+use Rattle.journal.specs.Steps.{AreSteps, Step, after_steps}
+use Rattle.journal.specs.Stored.{is_all_stored}
 
 -- a book begins with these rows, and has maybe more behind them
 pub record BeginsWithRows (rows : List Row) (b : Book) : Type 0 where
@@ -37,14 +37,14 @@ StoredRowsAreFoundAgain = (site : List ℕ) (m n : Moment) (config : Configured)
     (b : Book) → IsLegal (opening config) rows → b.config ≡ config
     → TellsWhole site m (events_of rows) → GoesOn m n → IsRead site n b → BeginsWithRows rows b
 
--- What is told is found again, however the history lives on. While a peer may be told something,
--- each row of the station but those of reads is on the disk. Take any life from then on: stores,
--- ends of chapters and starts, each whole or cut off by a crash. If a book is read of what it
--- leaves, that begins with these rows.
+-- What is told is found again, however the history lives on. Nobody is told or shown anything of a
+-- station but while each row is stored (`told_at`, and the book that is shown). Take any life from
+-- then on: stores, ends of chapters and starts, each whole or cut off by a crash. If a book is read
+-- of what it leaves, that begins with each row that the station had, but those of reads.
 abbrev pub ToldRowsAreFoundAgain : Type 0
-ToldRowsAreFoundAgain = (s : StoredState) (j : JournalState) (f : DiskFile) (key : ℕ)
+ToldRowsAreFoundAgain = (s : StoredState) (j : JournalState) (f : DiskFile)
     (life : List Moment) (b : Book) → IsStored s → s.journal ≡ Some j → j.file ≡ Some f
-    → (told_at s key ≡ [] → ⊥) → IsLife (moment_of f) life
+    → is_all_stored s ≡ true → IsLife (moment_of f) life
     → b.config ≡ s.station.book.config → IsRead j.site (end_of (moment_of f) life) b
     → BeginsWithRows (kept_rows s.station.book.rows) b
 
@@ -53,15 +53,15 @@ pub record KeepsFirst (rows : List Row) (b : Book) : Type 0 where
   pub more : List Row
   pub parts : kept_rows b.rows ≡ rows ++ more
 
--- What was sent is never taken back. Take a step with which a peer is sent something, and any steps
--- from there on: moves, calls of the journal, crashes and starts. All rows that the station had
--- when it sent that, but those of reads, are then the first ones that its book keeps. So any start
--- finds them.
-abbrev pub SentRowsStay : Type 0
-SentRowsStay = (s : StoredState) (j : JournalState) (f : DiskFile) (key : ℕ) (step : Step)
-    (steps : List Step) → IsStored s → s.journal ≡ Some j → j.file ≡ Some f
-    → (sent_with key step s ≡ [] → ⊥) → AreSteps (step ∷ steps) s
-    → KeepsFirst (kept_rows s.station.book.rows) (after_steps (step ∷ steps) s).station.book
+-- What was told is never taken back. Take a station of which each row is stored, as whenever
+-- anybody is told or shown anything of it, and any steps from there on: moves, what peers take among
+-- them, gates that are set, calls of the journal, crashes and starts. All rows that it had, but those
+-- of reads, stay the first ones that its book keeps. So any start finds them.
+abbrev pub ToldRowsStay : Type 0
+ToldRowsStay = (s : StoredState) (j : JournalState) (f : DiskFile) (steps : List Step)
+    → IsStored s → s.journal ≡ Some j → j.file ≡ Some f → is_all_stored s ≡ true
+    → AreSteps steps s
+    → KeepsFirst (kept_rows s.station.book.rows) (after_steps steps s).station.book
 
 -- the times of this text rise behind the last one that the chapters tell
 pub record RisesBehind (site : List ℕ) (m : Moment) (text : List ℕ) : Type 0 where

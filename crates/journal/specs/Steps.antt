@@ -1,12 +1,13 @@
--- A station's life: moves, what peers take, stores, crashes and starts, in any order.
-use Rattle.std.specs.Prelude.{ℕ, ◌==◌, List, [], ◌∷◌, take, Option, Some, None, ⊤}
-use Rattle.std.specs.Prelude.{if◌then◌else◌}
+-- A station's life: moves, what peers take, stores, crashes and starts, in any order. Of what is
+-- unpaid, which a call may read anew, nothing is said.
+use Rattle.std.specs.Prelude.{ℕ, List, [], ◌∷◌, Option, Some, None, ⊤}
 use Rattle.site_base.specs.Configured.{Configured}
-use Rattle.station.specs.Runs.{Move, Takes, after_move}
+use Rattle.station.specs.Gates.{GateState}
+use Rattle.station.specs.Runs.{Move, after_move}
 use Rattle.journal.specs.Disks.{BeginsWith, DiskFile, IsSameChapter, Moment, moment_of}
 use Rattle.journal.specs.Lives.{IsLife, end_of}
 use Rattle.journal.specs.Opening.{Reopens}
-use Rattle.journal.specs.Stored.{JournalGoesOn, JournalState, StoredState, told_at, with_station}
+use Rattle.journal.specs.Stored.{JournalGoesOn, JournalState, StoredState, with_station}
 
 -- a crash, and a start behind it: calls and starts that were cut off before, the disk that the
 -- start finds, its time, how many rows it reads, and its station
@@ -17,10 +18,11 @@ pub record Restart : Type 0 where
   pub rows : ℕ
   pub later : StoredState
 
--- What may come next: a move, what a peer takes among them; a call of the journal, as a store or a
--- chapter's end; or a crash and a start.
+-- What may come next: a move, what a peer takes among them; that it is said who may speak where; a
+-- call of the journal, as a store or a chapter's end; or a crash and a start.
 pub data Step : Type 0 where
   Moves : (move : Move) → Step
+  Gates : (gates : GateState) → Step
   Calls : (later : Option JournalState) → Step
   Restarts : (restart : Restart) → Step
 
@@ -48,11 +50,13 @@ is_restart config (Some j) r = is_restart_of j.site config j.file r
 -- this may come next
 abbrev pub IsStep : Step → StoredState → Type 0
 IsStep (Moves move) s = ⊤
+IsStep (Gates gates) s = ⊤
 IsStep (Calls later) s = JournalGoesOn s.journal later
 IsStep (Restarts r) s = is_restart s.station.book.config s.journal r
 
 abbrev pub after_step : Step → StoredState → StoredState
 after_step (Moves move) s = with_station (after_move move s.station) s
+after_step (Gates gates) s = with_station (record s.station { gates = gates }) s
 after_step (Calls later) s = record s { journal = later }
 after_step (Restarts r) s = r.later
 
@@ -64,8 +68,3 @@ AreSteps (step ∷ steps) s = IsStep step s × AreSteps steps (after_step step s
 abbrev pub after_steps : List Step → StoredState → StoredState
 after_steps [] s = s
 after_steps (step ∷ steps) s = after_steps steps (after_step step s)
-
--- what the peer of a key is sent with a step: of what it may be told then, so many octets
-abbrev pub sent_with : ℕ → Step → StoredState → List ℕ
-sent_with k (Moves (Takes j n)) s = if j == k then take n (told_at s k) else []
-sent_with k step s = []

@@ -1,7 +1,7 @@
 //! The laws of a journal. Each is a function whose contract is the law.
 
 ghost use Rattle.journal.specs.Laws.{BeginningsAreRead, HistoriesAreMadeAgain};
-ghost use Rattle.journal.specs.Laws.{SentRowsStay, StampsRise, StationsRowsAreSent};
+ghost use Rattle.journal.specs.Laws.{ToldRowsStay, StampsRise, StationsRowsAreSent};
 ghost use Rattle.journal.specs.Laws.{StationsRowsCanBeSpelled};
 ghost use Rattle.journal.specs.Laws.{StoredRowsAreFoundAgain, ToldRowsAreFoundAgain};
 ghost use Rattle.journal.specs.Lives.{CallsAreSteps};
@@ -12,16 +12,16 @@ pub fn stored_rows_are_found_again()
     ensures { StoredRowsAreFoundAgain }
 {}
 
-/// While a peer may be told something, each row of the station will be found again, whatever then
-/// comes: any list of stores, ends of chapters, crashes and starts.
+/// Once each row of the station is stored, each but those of reads will be found again, whatever
+/// then comes: any list of stores, ends of chapters, crashes and starts.
 pub fn told_rows_are_found_again()
     ensures { ToldRowsAreFoundAgain }
 {}
 
-/// While a peer is sent something, each row of the station but those of reads is one that its book
-/// keeps from then on, whatever comes: moves, stores, crashes and starts.
-pub fn sent_rows_stay()
-    ensures { SentRowsStay }
+/// Once each row is stored, those but reads stay the first that the station's book keeps, whatever
+/// comes: moves, stores, crashes and starts.
+pub fn told_rows_stay()
+    ensures { ToldRowsStay }
 {}
 
 /// Each store, each end of a chapter and each start is a step of a history's life, whole or cut off

@@ -21,7 +21,8 @@ pub use disk::{Disk, DiskFault};
 pub use journal::{ChapterEnd, Journal, RETRY_ROWS};
 pub use laws::{
     beginnings_are_read, calls_are_steps, histories_are_made_again, stamps_rise,
-    stations_rows_are_sent, stored_rows_are_found_again, told_rows_are_found_again,
+    stations_rows_are_sent, stations_rows_can_be_spelled, stored_rows_are_found_again,
+    told_rows_are_found_again, told_rows_stay,
 };
 pub use memory::LEAST_ROWS;
 pub use opening::{Opened, Unopened, open_journal, resume};

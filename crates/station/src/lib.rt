@@ -25,10 +25,11 @@ mod station;
 pub use gates::{Admission, Gates};
 pub use laws::{
     doors_stay_open, each_peer_is_told_its_story, ends_leave_their_till,
-    ends_spare_tills_of_others, peers_leave_their_till, requests_are_asked_in_order,
-    requests_cost_octets, rows_are_one_history, rows_come_through_their_door,
-    standing_notices_are_changes, standing_notices_tell_what_was_missed, stations_are_never_full,
-    the_station_acts_alone_so, tills_have_sessions,
+    ends_spare_tills_of_others, owed_is_bounded, peers_leave_their_till,
+    requests_are_asked_in_order, requests_cost_octets, rows_are_one_history,
+    rows_come_through_their_door, standing_notices_are_changes,
+    standing_notices_tell_what_was_missed, stations_are_never_full, the_station_acts_alone_so,
+    tills_have_sessions, what_was_told_stays,
 };
 pub use peer_end::PeerEnd;
 pub use sizes::{
