@@ -1,3 +1,4 @@
+pub mod Dues
 pub mod Leaving
 pub mod Linking
 pub mod Pairing
