@@ -6,7 +6,9 @@ use Rattle.site_book.specs.Book.{Book}
 use Rattle.site_book.specs.Changes.{is_changing}
 use Rattle.station.specs.Moves.{StationState}
 use Rattle.station.specs.Reads.{owed_at}
+use Rattle.journal.specs.Stored.{StoredState, told_at}
 use Rattle.peer_connections.specs.declared.change_watch.ChangeWatch.{ChangeWatch}
+use Rattle.peer_connections.specs.declared.link.Channel.TheVariants.{Failed}
 use Rattle.peer_connections.specs.declared.link.Link.{Link}
 use Rattle.peer_connections.specs.Due.{is_due}
 
@@ -39,3 +41,22 @@ OwedAreDue s links due =
 -- .. so are those whose connections took none
 abbrev pub FullAreDue : {S : Type 0} → List (Option (Link S)) → List ℕ → Type 0
 FullAreDue links due = (k : ℕ) → is_full_at links k ≡ true → is_due due k ≡ true
+
+-- ---- who was sent to
+
+-- a connection takes no octets for now, its turn was over before all was sent, or it has failed
+abbrev pub HasStopped : {S : Type 0} → Link S → Type 0
+HasStopped link =
+    (link.is_full ≡ true) ⊎ (link.is_unsent ≡ true) ⊎ (link.channel ≡ Failed)
+
+abbrev pub StopsAt : {S : Type 0} → Option (Link S) → Type 0
+StopsAt None = ⊥
+StopsAt (Some link) = HasStopped link
+
+-- the peer of a key may be told nothing more, or its connection has stopped
+abbrev pub IsSent : {S : Type 0} → ℕ → StoredState → List (Option (Link S)) → Type 0
+IsSent key s links = (told_at s key ≡ []) ⊎ StopsAt (get_or links key None)
+
+-- .. each peer of these keys
+abbrev pub AreSent : {S : Type 0} → List ℕ → StoredState → List (Option (Link S)) → Type 0
+AreSent due s links = (k : ℕ) → is_due due k ≡ true → IsSent k s links
