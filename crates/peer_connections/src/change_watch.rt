@@ -1,5 +1,9 @@
 //! Rows that dispensers are told of.
 
+ghost use Rattle.std.specs.Prelude.{◌≡◌, ◌≤◌, ◌||◌, IfSome, false, slice_get, true};
+ghost use Rattle.site_book.specs.Changes.{is_changing};
+ghost use Rattle.peer_connections.specs.Sending.{HasChange};
+
 use site_base::{Event, FpNo, PointSet, Row};
 use site_book::{SiteBook, is_changing};
 
@@ -28,22 +32,35 @@ impl ChangeWatch {
         }
     }
 
-    /// Looks at the rows that are new.
-    pub fn look(&mut self, book: &SiteBook) {
+    /// Looks at the rows that are new. One that a dispenser is told of is noted.
+    pub fn look(&mut self, book: &SiteBook)
+        ensures { HasChange self.old book.now → self.new.has_changes ≡ true }
+    {
         let first = self.rows_seen;
         self.rows_seen = book.len();
         for place in first..self.rows_seen {
             if self.has_changes && !self.watches_releases {
                 return;
             }
-            if let Some(row) = book.row(place) {
-                self.note(&row);
-            }
+            self.look_at(book, place);
+        }
+    }
+
+    /// Looks at the row of this place, if it is in memory.
+    fn look_at(&mut self, book: &SiteBook, place: u64)
+        ensures had { self.old.has_changes ≡ true → self.new.has_changes ≡ true }
+        ensures noted { book.now.forgotten ≤ place → IfSome (slice_get book.now.rows place)
+            (λ row. is_changing row ≡ true → self.new.has_changes ≡ true) }
+    {
+        if let Some(row) = book.row(place) {
+            self.note(&row);
         }
     }
 
     /// Notes a new row.
-    fn note(&mut self, row: &Row) {
+    fn note(&mut self, row: &Row)
+        ensures { self.new.has_changes ≡ (self.old.has_changes || is_changing row.now) }
+    {
         if is_changing(row) {
             self.has_changes = true;
             if let Some(p) = point_released(&row.event) {
@@ -53,14 +70,19 @@ impl ChangeWatch {
     }
 
     /// The points that were released since this was asked last.
-    pub fn take_released(&mut self) -> PointSet {
+    pub fn take_released(&mut self) -> PointSet
+        ensures changes { self.new.has_changes ≡ self.old.has_changes }
+    {
         let released = self.released;
         self.released = PointSet::new();
         released
     }
 
     /// Was there such a row, since this was asked last?
-    pub fn take(&mut self) -> bool {
+    pub fn take(&mut self) -> bool
+        ensures had { result ≡ self.old.has_changes }
+        ensures none { self.new.has_changes ≡ false }
+    {
         let had_changes = self.has_changes;
         self.has_changes = false;
         had_changes

@@ -1,15 +1,19 @@
 //! The connections of all peers, and the station that they speak with.
 
-ghost use Rattle.std.specs.Prelude.{◌≡◌, ℕ, false, length, IfOk, IfSome, OnOk, is_some, true};
+ghost use Rattle.std.specs.Prelude.{◌≡◌, ◌≢◌, ◌<◌, ◌⊎◌, ℕ, [], false, length, IfOk, IfSome, OnOk};
+ghost use Rattle.std.specs.Prelude.{◌≤◌, ◌+◌, is_some, take, true};
 ghost use Rattle.site_book.specs.Unpaid.{unpaid_sales};
-ghost use Rattle.station.specs.declared.sizes.TheConstants.{HEARD_OCTETS};
+ghost use Rattle.station.specs.declared.sizes.TheConstants.{HEARD_OCTETS, PEERS};
 ghost use Rattle.station.specs.Moves.{without_peer};
-ghost use Rattle.station.specs.Reads.{HasNoPeer};
+ghost use Rattle.station.specs.Reads.{HasNoPeer, owed_at};
 ghost use Rattle.station.specs.Runs.{opening_station};
 ghost use Rattle.journal.specs.Stored.{JournalGoesOn, is_all_stored, since_of, with_station};
 ghost use Rattle.peer_connections.specs.Allowed.{IsClosing, IsHearing, IsSending, lasts_at};
+ghost use Rattle.peer_connections.specs.Due.{StayDue, is_due, with_due};
 ghost use Rattle.peer_connections.specs.Links.{ArePaired, OthersStay, has_link};
 ghost use Rattle.peer_connections.specs.Reaches.{Reaches, ReachesBy};
+ghost use Rattle.peer_connections.specs.Sending.{AreSent, FullAreDue, HasChange, IsSent};
+ghost use Rattle.peer_connections.specs.Sending.{OwedAreDue, is_full_at};
 
 use crate::change_watch::ChangeWatch;
 use crate::due_list::DueList;
@@ -155,6 +159,8 @@ impl<D: Disk> Connections<D> {
         ensures journal { JournalGoesOn self.old.stored.journal self.new.stored.journal }
         ensures station { self.new.stored.station ≡ self.old.stored.station }
         ensures stored { OnOk result (is_all_stored self.new.stored ≡ true) }
+        ensures links { self.new.links ≡ self.old.links }
+        ensures due { self.new.due ≡ self.old.due }
     {
         self.stored.store()
     }
@@ -165,6 +171,8 @@ impl<D: Disk> Connections<D> {
         ensures journal { JournalGoesOn self.old.stored.journal self.new.stored.journal }
         ensures station { self.new.stored.station ≡ self.old.stored.station }
         ensures stored { OnOk result (is_all_stored self.new.stored ≡ true) }
+        ensures links { self.new.links ≡ self.old.links }
+        ensures due { self.new.due ≡ self.old.due }
     {
         self.store()?;
         self.end_chapter(rt)
@@ -178,6 +186,8 @@ impl<D: Disk> Connections<D> {
         ensures station { self.new.stored.station ≡ self.old.stored.station }
         ensures journal { JournalGoesOn self.old.stored.journal self.new.stored.journal }
         ensures stored { is_all_stored self.new.stored ≡ true }
+        ensures links { self.new.links ≡ self.old.links }
+        ensures due { self.new.due ≡ self.old.due }
     {
         match self.stored.end_chapter_if_over()? {
             ChapterEnd::NotDue => return Ok(()),
@@ -311,6 +321,7 @@ impl<D: Disk> Connections<D> {
     pub fn make_due(&mut self, key: usize)
         ensures stored { self.new.stored ≡ self.old.stored }
         ensures links { self.new.links ≡ self.old.links }
+        ensures due { self.new.due ≡ with_due key self.old.due }
     {
         self.due.add(key);
     }
@@ -319,31 +330,65 @@ impl<D: Disk> Connections<D> {
     /// at its end, but for those whose connections take none for now. Whoever spoke is sent them
     /// anyway.
     pub fn make_owed_due(&mut self)
-        ensures { self.new.stored ≡ self.old.stored }
+        ensures stored { self.new.stored ≡ self.old.stored }
+        ensures links { self.new.links ≡ self.old.links }
+        ensures due { StayDue self.old.due self.new.due }
+        ensures owed { HasChange self.old.changes self.old.stored.station.book
+            → OwedAreDue self.new.stored.station self.new.links.items self.new.due }
     {
         self.changes.look(self.stored.book());
         self.note_releases();
-        if !self.changes.take() {
-            return;
+        if self.changes.take() {
+            self.make_each_owed_due();
         }
+    }
+
+    /// Peers that are owed octets are sent them at the end of this round, but for those whose
+    /// connections take none for now.
+    #[tactic(auto, using(crate::proofs::Dues::due))]
+    fn make_each_owed_due(&mut self)
+        ensures stored { self.new.stored ≡ self.old.stored }
+        ensures links { self.new.links ≡ self.old.links }
+        ensures due { StayDue self.old.due self.new.due }
+        ensures owed { OwedAreDue self.new.stored.station self.new.links.items self.new.due }
+    {
+        // Keys above aren't given.
+        let _ = self.stored.book();
         let mut from = 0;
         for _ in 0..PEERS {
             let Some(key) = self.stored.next_owed(from) else {
                 return;
             };
-            if !self.stored.is_read(key) {
-                self.may_wait = true;
-            }
-            if self.takes_octets(key) {
-                self.make_due(key);
-            }
+            self.make_one_owed_due(key);
             from = key + 1;
+        }
+    }
+
+    /// A peer that is owed octets is sent them at the end of this round, unless its connection
+    /// takes none for now.
+    #[tactic(auto, using(crate::proofs::Dues::due))]
+    fn make_one_owed_due(&mut self, key: usize)
+        requires { key < PEERS }
+        ensures stored { self.new.stored ≡ self.old.stored }
+        ensures links { self.new.links ≡ self.old.links }
+        ensures due { StayDue self.old.due self.new.due }
+        ensures owed { owed_at self.new.stored.station key ≢ [] → (is_due self.new.due key ≡ true)
+            ⊎ (is_full_at self.new.links.items key ≡ true) }
+    {
+        if !self.stored.is_read(key) {
+            self.may_wait = true;
+        }
+        if self.takes_octets(key) {
+            self.make_due(key);
         }
     }
 
     /// The releases of this round stand since it began.
     fn note_releases(&mut self)
-        ensures { self.new.stored ≡ self.old.stored }
+        ensures stored { self.new.stored ≡ self.old.stored }
+        ensures links { self.new.links ≡ self.old.links }
+        ensures due { self.new.due ≡ self.old.due }
+        ensures changes { self.new.changes.has_changes ≡ self.old.changes.has_changes }
     {
         let released = self.changes.take_released();
         if let Some(now) = self.round_at {
@@ -354,9 +399,15 @@ impl<D: Disk> Connections<D> {
     /// Peers whose connections took no more are sent what they are owed at the end of this round,
     /// too: the system says only after long that a connection takes octets again. So a peer that
     /// takes some isn't left as one that takes nothing.
+    #[tactic(auto, using(crate::proofs::Dues::due))]
     pub fn make_full_due(&mut self)
-        ensures { self.new.stored ≡ self.old.stored }
+        ensures stored { self.new.stored ≡ self.old.stored }
+        ensures links { self.new.links ≡ self.old.links }
+        ensures due { StayDue self.old.due self.new.due }
+        ensures full { FullAreDue self.new.links.items self.new.due }
     {
+        // Keys above aren't given.
+        let _ = self.stored.book();
         for key in 0..PEERS {
             if self.is_full(key) {
                 self.make_due(key);
@@ -365,7 +416,9 @@ impl<D: Disk> Connections<D> {
     }
 
     /// Did the connection of a peer take no more?
-    fn is_full(&self, key: usize) -> bool {
+    fn is_full(&self, key: usize) -> bool
+        ensures { result ≡ is_full_at self.now.links.items key }
+    {
         match self.links.get(key) {
             Some(Some(link)) => link.is_full,
             _ => false,
@@ -373,7 +426,10 @@ impl<D: Disk> Connections<D> {
     }
 
     /// Does the connection of a peer take octets, or has its session ended just now?
-    fn takes_octets(&self, key: usize) -> bool {
+    fn takes_octets(&self, key: usize) -> bool
+        ensures { result ≡ false → has_link self.now.links.items key ≡ true
+            → is_full_at self.now.links.items key ≡ true }
+    {
         match self.links.get(key) {
             Some(Some(link)) => {
                 let has_ended = link.closing_since.is_none() && self.stored.end(key).is_some();
@@ -385,7 +441,9 @@ impl<D: Disk> Connections<D> {
 
     /// Each row is stored; then whoever is due is sent what it is owed, and a session that has
     /// ended is closed. Where the rows can't be stored nothing is sent. At the end the history's
-    /// chapter ends, if it is over.
+    /// chapter ends, if it is over. Nobody is passed over: but for what rows that were added
+    /// meanwhile tell them, those that were due are owed nothing more, or their connections have
+    /// stopped.
     #[tactic(auto, using(crate::proofs::Reaching::moved))]
     pub fn send_due<E: Eprint>(
         &mut self,
@@ -395,6 +453,10 @@ impl<D: Disk> Connections<D> {
     ) -> Result<(), DiskFault>
         ensures moves { Reaches self.old.stored self.new.stored }
         ensures stored { OnOk result (is_all_stored self.new.stored ≡ true) }
+        ensures due { OnOk result (self.new.due ≡ []) }
+        ensures sent { OnOk result (length self.new.stored.station.book.rows
+            ≡ length self.old.stored.station.book.rows
+            → AreSent self.old.due self.new.stored self.new.links.items) }
     {
         self.store()?;
         self.send_each(registry, rt, now);
@@ -402,24 +464,53 @@ impl<D: Disk> Connections<D> {
         self.store_and_end(rt)
     }
 
-    /// Whoever is due is sent what it may be told, and a session that has ended is closed.
+    /// Each row is stored. Whoever is due is sent what it may be told, and a session that has ended
+    /// is closed.
     #[tactic(auto, using(crate::proofs::Reaching::moved))]
     fn send_each<E: Eprint>(&mut self, registry: &Registry, rt: &E, now: Instant)
-        ensures { Reaches self.old.stored self.new.stored }
+        ensures moves { Reaches self.old.stored self.new.stored }
+        ensures journal { self.new.stored.journal ≡ self.old.stored.journal }
+        ensures rows { length self.old.stored.station.book.rows
+            ≤ length self.new.stored.station.book.rows }
+        ensures due { self.new.due ≡ [] }
+        ensures sent { length self.new.stored.station.book.rows
+            ≡ length self.old.stored.station.book.rows
+            → AreSent self.old.due self.new.stored self.new.links.items }
     {
         for at in 0..self.due.len() {
-            if let Some(key) = self.due.get(at) {
-                self.send_owed(registry, rt, key, now);
-            }
+            self.send_at(registry, rt, at, now);
         }
         self.due.clear();
     }
 
+    /// The one that is due at this place is sent what it may be told, as those before it were.
+    #[tactic(auto, using(crate::proofs::Reaching::moved))]
+    fn send_at<E: Eprint>(&mut self, registry: &Registry, rt: &E, at: usize, now: Instant)
+        requires { at < length self.old.due }
+        ensures moves { Reaches self.old.stored self.new.stored }
+        ensures journal { self.new.stored.journal ≡ self.old.stored.journal }
+        ensures rows { length self.old.stored.station.book.rows
+            ≤ length self.new.stored.station.book.rows }
+        ensures due { self.new.due ≡ self.old.due }
+        ensures sent { length self.new.stored.station.book.rows
+            ≡ length self.old.stored.station.book.rows
+            → AreSent (take at self.old.due) self.old.stored self.old.links.items
+            → AreSent (take (at + 1) self.new.due) self.new.stored self.new.links.items }
+    {
+        match self.due.get(at) {
+            Some(key) => self.send_owed(registry, rt, key, now),
+            None => {}
+        }
+    }
+
     /// A peer is sent what it is owed, and its connection follows its session.
-    #[tactic(auto, using(crate::proofs::Reaching::moved, crate::proofs::Pairing::paired))]
+    #[tactic(auto, using(crate::proofs::Reaching::moved, crate::proofs::Sent::sent_to))]
     fn send_owed<E: Eprint>(&mut self, registry: &Registry, rt: &E, key: usize, now: Instant)
         ensures moves { ReachesBy (IsClosing key) self.old.stored self.new.stored }
         ensures others { OthersStay key self.old.links.items self.new.links.items }
+        ensures sent { IsSent key self.new.stored self.new.links.items }
+        ensures journal { self.new.stored.journal ≡ self.old.stored.journal }
+        ensures due { self.new.due ≡ self.old.due }
     {
         match self.send_link(key, now) {
             None => {}
@@ -436,10 +527,13 @@ impl<D: Disk> Connections<D> {
     }
 
     /// A peer is sent what it may be told. What it can still do then, if it has a connection.
-    #[tactic(auto, using(crate::proofs::Streaming::sent, crate::proofs::Pairing::paired))]
+    #[tactic(auto, using(crate::proofs::Streaming::sent, crate::proofs::Sent::sent_to))]
     fn send_link(&mut self, key: usize, now: Instant) -> Option<Channel>
         ensures moves { ReachesBy (IsSending key) self.old.stored self.new.stored }
         ensures others { OthersStay key self.old.links.items self.new.links.items }
+        ensures sent { IsSent key self.new.stored self.new.links.items }
+        ensures journal { self.new.stored.journal ≡ self.old.stored.journal }
+        ensures due { self.new.due ≡ self.old.due }
     {
         if let Some(slot) = self.links.get_mut(key) {
             if let Some(link) = slot {
@@ -451,10 +545,14 @@ impl<D: Disk> Connections<D> {
     }
 
     /// A peer's connection closes, if its session has ended.
-    #[tactic(auto, using(crate::proofs::Reaching::closed, crate::proofs::Linking::kept))]
+    #[tactic(auto, using(crate::proofs::Reaching::closed, crate::proofs::Sent::sent_to))]
     fn follow_session<E: Eprint>(&mut self, rt: &E, key: usize, now: Instant)
         ensures moves { ReachesBy (IsClosing key) self.old.stored self.new.stored }
         ensures others { OthersStay key self.old.links.items self.new.links.items }
+        ensures sent { IsSent key self.old.stored self.old.links.items
+            → IsSent key self.new.stored self.new.links.items }
+        ensures journal { self.new.stored.journal ≡ self.old.stored.journal }
+        ensures due { self.new.due ≡ self.old.due }
     {
         if let Some(end) = self.stored.end(key) {
             self.begin_to_close(rt, key, now);
@@ -464,10 +562,13 @@ impl<D: Disk> Connections<D> {
 
     /// Where a peer's turn was over before all was read or sent that could be, its connection is
     /// reported once more.
-    #[tactic(auto, using(crate::proofs::Pairing::paired))]
+    #[tactic(auto, using(crate::proofs::Sent::sent_to))]
     fn report_again(&mut self, registry: &Registry, key: usize)
         ensures stored { self.new.stored ≡ self.old.stored }
         ensures others { OthersStay key self.old.links.items self.new.links.items }
+        ensures sent { IsSent key self.old.stored self.old.links.items
+            → IsSent key self.new.stored self.new.links.items }
+        ensures due { self.new.due ≡ self.old.due }
     {
         let is_read = self.stored.is_read(key);
         let is_owed = self.stored.is_owed(key);
@@ -475,7 +576,7 @@ impl<D: Disk> Connections<D> {
             if let Some(link) = slot {
                 let is_heard = is_read && link.held_until.is_none();
                 let is_left = link.is_unread && (is_heard || link.closing_since.is_some());
-                if is_left || is_owed && !link.is_full {
+                if is_left || is_owed && (link.is_unsent || !link.is_full) {
                     link.stream.watch_again(registry, key);
                 }
             }
@@ -484,10 +585,13 @@ impl<D: Disk> Connections<D> {
 
     /// The session of a peer has ended: its connection is one that closes. That is told once, where
     /// it ended otherwise than with its peer's octets.
-    #[tactic(auto, using(crate::proofs::Linking::kept))]
+    #[tactic(auto, using(crate::proofs::Sent::sent_to))]
     fn begin_to_close<E: Eprint>(&mut self, rt: &E, key: usize, now: Instant)
         ensures stored { self.new.stored ≡ self.old.stored }
         ensures others { OthersStay key self.old.links.items self.new.links.items }
+        ensures sent { IsSent key self.old.stored self.old.links.items
+            → IsSent key self.new.stored self.new.links.items }
+        ensures due { self.new.due ≡ self.old.due }
     {
         if !self.note_closing(key, now) {
             return;
@@ -503,10 +607,13 @@ impl<D: Disk> Connections<D> {
     }
 
     /// The connection of a peer is one that closes; false where it was one.
-    #[tactic(auto, using(crate::proofs::Pairing::paired))]
+    #[tactic(auto, using(crate::proofs::Sent::sent_to))]
     pub(crate) fn note_closing(&mut self, key: usize, now: Instant) -> bool
         ensures stored { self.new.stored ≡ self.old.stored }
         ensures others { OthersStay key self.old.links.items self.new.links.items }
+        ensures sent { IsSent key self.old.stored self.old.links.items
+            → IsSent key self.new.stored self.new.links.items }
+        ensures due { self.new.due ≡ self.old.due }
     {
         if let Some(slot) = self.links.get_mut(key) {
             if let Some(link) = slot {
@@ -523,11 +630,15 @@ impl<D: Disk> Connections<D> {
     /// A peer whose session ended so has what it is owed: it is told that nothing more will come,
     /// and once it sends no more its connection is closed. That of one that doesn't take what it is
     /// owed is closed at once.
-    #[tactic(auto, using(crate::proofs::Reaching::closed, crate::proofs::Linking::kept))]
+    #[tactic(auto, using(crate::proofs::Reaching::closed, crate::proofs::Sent::sent_to))]
     fn end_connection(&mut self, key: usize, end: PeerEnd)
         requires { lasts_at self.old.stored.station key ≡ false }
         ensures moves { ReachesBy (IsClosing key) self.old.stored self.new.stored }
         ensures others { OthersStay key self.old.links.items self.new.links.items }
+        ensures sent { IsSent key self.old.stored self.old.links.items
+            → IsSent key self.new.stored self.new.links.items }
+        ensures journal { self.new.stored.journal ≡ self.old.stored.journal }
+        ensures due { self.new.due ≡ self.old.due }
     {
         if end == PeerEnd::Behind {
             self.remove(key);
@@ -542,10 +653,13 @@ impl<D: Disk> Connections<D> {
     }
 
     /// A peer is told that nothing more will come. Can it only take, or nothing at all?
-    #[tactic(auto, using(crate::proofs::Pairing::paired))]
+    #[tactic(auto, using(crate::proofs::Sent::sent_to))]
     fn shut(&mut self, key: usize) -> bool
         ensures stored { self.new.stored ≡ self.old.stored }
         ensures others { OthersStay key self.old.links.items self.new.links.items }
+        ensures sent { IsSent key self.old.stored self.old.links.items
+            → IsSent key self.new.stored self.new.links.items }
+        ensures due { self.new.due ≡ self.old.due }
     {
         if let Some(slot) = self.links.get_mut(key) {
             if let Some(link) = slot {
@@ -562,6 +676,7 @@ impl<D: Disk> Connections<D> {
         ensures left { self.new.stored
             ≡ with_station (without_peer key self.old.stored.station) self.old.stored }
         ensures others { OthersStay key self.old.links.items self.new.links.items }
+        ensures due { self.new.due ≡ self.old.due }
     {
         self.stored.leave(key);
         if let Some(slot) = self.links.get_mut(key) {

@@ -1,8 +1,12 @@
 //! The peers that are sent what they are owed at the end of a round.
 
+ghost use Rattle.std.specs.Prelude.{◌≡◌, IfOk, List, [], length, slice_get};
+ghost use Rattle.peer_connections.specs.Due.{with_due};
+
 use site_base::NoMemory;
 use station::PEERS;
 use std::alloc::Global;
+use std::marker::Model;
 
 /// The keys of the peers that are due in this round, in the order in which they became so, each
 /// once. It takes no memory while the station runs.
@@ -15,9 +19,23 @@ pub(crate) struct DueList {
     is_due: Vec<bool>,
 }
 
+impl Model for DueList {
+    ghost use Rattle.std.specs.Prelude.{List, ℕ, take};
+    ghost use Rattle.peer_connections.specs.Due.{AreMarked};
+
+    ghost Value = { List ℕ };
+
+    ghost view = { λ d. take d.count d.keys.items };
+
+    ghost invariant = { λ d. AreMarked d.count d.keys.items d.is_due.items };
+}
+
 impl DueList {
     /// Nobody is due.
-    pub(crate) fn new(alloc: Global) -> Result<DueList, NoMemory> {
+    #[tactic(auto, using(crate::proofs::Dues::marked))]
+    pub(crate) fn new(alloc: Global) -> Result<DueList, NoMemory>
+        ensures { IfOk result (λ due. due ≡ []) }
+    {
         let keys = Vec::from_elem(alloc, 0, PEERS)?;
         let is_due = Vec::from_elem(alloc, false, PEERS)?;
         Ok(DueList {
@@ -28,8 +46,11 @@ impl DueList {
     }
 
     /// The peer of this key is due.
-    pub(crate) fn add(&mut self, key: usize) {
-        if key >= self.is_due.len() || self.count >= self.keys.len() || self.is_due[key] {
+    #[tactic(auto, using(crate::proofs::Dues::marked))]
+    pub(crate) fn add(&mut self, key: usize)
+        ensures { self.new ≡ with_due key self.old }
+    {
+        if key >= self.is_due.len() || self.is_due[key] {
             return;
         }
         self.is_due[key] = true;
@@ -38,12 +59,18 @@ impl DueList {
     }
 
     /// How many are due.
-    pub(crate) fn len(&self) -> usize {
+    #[tactic(auto, using(crate::proofs::Dues::marked))]
+    pub(crate) fn len(&self) -> usize
+        ensures { result ≡ length self.now }
+    {
         self.count
     }
 
     /// The key of one that is due, by its place, counted from 0.
-    pub(crate) fn get(&self, place: usize) -> Option<usize> {
+    #[tactic(auto, using(crate::proofs::Dues::marked))]
+    pub(crate) fn get(&self, place: usize) -> Option<usize>
+        ensures { result ≡ slice_get self.now place }
+    {
         if place >= self.count {
             return None;
         }
@@ -51,19 +78,11 @@ impl DueList {
     }
 
     /// Nobody is due any more.
-    pub(crate) fn clear(&mut self) {
-        for place in 0..self.count {
-            self.forget(place);
-        }
+    #[tactic(auto, using(crate::proofs::Dues::marked))]
+    pub(crate) fn clear(&mut self)
+        ensures { self.new ≡ [] }
+    {
+        self.is_due.fill(false);
         self.count = 0;
-    }
-
-    /// The one at this place is due no more.
-    fn forget(&mut self, place: usize) {
-        if let Some(key) = self.keys.get(place) {
-            if let Some(is_due) = self.is_due.get_mut(*key) {
-                *is_due = false;
-            }
-        }
     }
 }

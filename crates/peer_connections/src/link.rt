@@ -1,7 +1,9 @@
 //! A peer's connection.
 
-ghost use Rattle.std.specs.Prelude.{◌≡◌, length};
+ghost use Rattle.std.specs.Prelude.{◌≡◌, ◌⊎◌, [], length};
 ghost use Rattle.station.specs.declared.sizes.TheConstants.{HEARD_OCTETS};
+ghost use Rattle.journal.specs.Stored.{told_at};
+ghost use Rattle.peer_connections.specs.Sending.{HasStopped};
 ghost use Rattle.peer_connections.specs.Streams.{HearsStream, SendsStream};
 
 use crate::allowance::Allowance;
@@ -38,6 +40,8 @@ pub(crate) struct Link<S> {
     pub(crate) held_until: Option<Instant>,
     /// It takes no octets for now.
     pub(crate) is_full: bool,
+    /// Its turn was over before it was sent all that its peer may be told.
+    pub(crate) is_unsent: bool,
     /// The peer was told that nothing more will come.
     is_shut: bool,
     /// What the peer may still do.
@@ -75,6 +79,7 @@ impl<S> Link<S> {
             allowance: Allowance::new(rows_a_second, now),
             held_until: None,
             is_full: false,
+            is_unsent: false,
             is_shut: false,
             channel: Channel::Open,
         }
@@ -185,12 +190,16 @@ impl<S: Read> Link<S> {
 }
 
 impl<S: Write> Link<S> {
-    /// Sends what the peer may be told, as far as its connection takes it for now.
+    /// Sends what the peer may be told, as far as its connection takes it for now: until nothing
+    /// more may be told, it takes none, it failed, or its turn is over.
     #[tactic(auto, using(crate::proofs::Streaming::sent_none))]
     pub(crate) fn send<D: Disk>(&mut self, stored: &mut StoredStation<D>, key: usize, now: Instant)
-        ensures { SendsStream key (S.contents self.old.stream) (S.contents self.new.stream)
+        ensures stream { SendsStream key (S.contents self.old.stream) (S.contents self.new.stream)
             stored.old stored.new }
+        ensures rest { (told_at stored.new key ≡ []) ⊎ HasStopped self.new }
+        ensures journal { stored.new.journal ≡ stored.old.journal }
     {
+        self.is_unsent = false;
         for _ in 0..CALLS_A_TURN {
             if stored.told_octets(key).is_empty() {
                 return;
@@ -208,12 +217,17 @@ impl<S: Write> Link<S> {
                 }
             }
         }
+        self.is_unsent = true;
     }
 }
 
 impl Link<PeerStream> {
     /// Tells the peer, once, that nothing more will come.
-    pub(crate) fn shut(&mut self) {
+    pub(crate) fn shut(&mut self)
+        ensures full { self.new.is_full ≡ self.old.is_full }
+        ensures unsent { self.new.is_unsent ≡ self.old.is_unsent }
+        ensures channel { self.new.channel ≡ self.old.channel }
+    {
         if !self.is_shut {
             self.is_shut = true;
             self.stream.shut();

@@ -1,3 +1,7 @@
+use Rattle.std.proofs.Common.{ap, ◌∙◌, subst, sym, ◌≡◌, List, length, ℕ}
+use Rattle.station.specs.Moves.{StationState}
+use Rattle.peer_connections.specs.Sending.{AreSent}
+use Rattle.peer_connections.proofs.Others.{on_ok, sent_by, sent_stored}
 use Rattle.peer_connections.proofs.Reaching.{reaches_kept, reaches_then}
 use Rattle.peer_connections.proofs.connections.Connections.send_due.Goals as goal
 
@@ -5,5 +9,23 @@ pub returns-clause-moves : goal.returns-clause-moves
 returns-clause-moves g c =
     reaches_then _ _ _ _
     (reaches_kept _ _ _ c.store.ensures.station c.store.ensures.journal)
-    (reaches_then _ _ _ _ c.send_each.ensures
+    (reaches_then _ _ _ _ c.send_each.ensures.moves
     (reaches_kept _ _ _ c.store_and_end.ensures.station c.store_and_end.ensures.journal))
+
+-- nobody is passed over
+pub returns-clause-sent : goal.returns-clause-sent
+returns-clause-sent g c =
+    on_ok c.store_and_end.result _
+    (λ few.
+    let same : length c.send_each.new.self.stored.station.book.rows
+    ≡ length c.store.new.self.stored.station.book.rows =
+    sym (ap (λ (s : StationState). length s.book.rows) c.store_and_end.ensures.station) ∙ few
+    ∙ sym (ap (λ (s : StationState). length s.book.rows) c.store.ensures.station) in
+    let each : AreSent c.args.self.now.due c.send_each.new.self.stored
+    c.send_each.new.self.links.items =
+    subst (λ (due : List ℕ). AreSent due c.send_each.new.self.stored
+    c.send_each.new.self.links.items) c.store.ensures.due (c.send_each.ensures.sent same) in
+    sent_by _ c.store_and_end.new.self.stored _ _ (ap (λ x. x.items) c.store_and_end.ensures.links)
+    (sent_stored c.args.self.now.due c.store.new.self.stored c.send_each.new.self.stored
+    c.store_and_end.new.self.stored _ c.in_ok-store.ensures.stored c.send_each.ensures.journal
+    same c.store_and_end.ensures.station each))

@@ -1,14 +1,25 @@
-use Rattle.std.proofs.Common.{ap}
-use Rattle.peer_connections.proofs.Reaching.{reaches_any, reaches_same, reaches_then}
+use Rattle.std.proofs.Common.{arith, take, List, ◌∙◌, subst, ℕ}
+use Rattle.peer_connections.specs.Sending.{AreSent}
+use Rattle.peer_connections.proofs.Others.{all_sent}
+use Rattle.peer_connections.proofs.Reaching.{reaches_then}
 use Rattle.peer_connections.proofs.connections.Connections.send_each.Goals as goal
-use Rattle.peer_connections.proofs.connections.Connections.send_each.Goals.{in-Some, in_default}
 
 pub loop-at-preserved : goal.loop-at-preserved
-loop-at-preserved g c =
-    elim c.match-get.branch [
-      | in-Some w ↦ reaches_then _ _ _ _ c.loop-at.invariant
-          (reaches_then _ _ _ _ (reaches_any _ _ _ w.send_owed.ensures.moves)
-          (reaches_same _ _ _ (ap (λ x. x.stored) w.self-is)))
-      | in_default w ↦ reaches_then _ _ _ _ c.loop-at.invariant
-          (reaches_same _ _ _ (ap (λ x. x.stored) w.self-is))
-    ]
+loop-at-preserved g c = record {
+  moves = reaches_then _ _ _ _ c.loop-at.invariant.moves c.send_at.ensures.moves;
+  journal = c.send_at.ensures.journal ∙ c.loop-at.invariant.journal;
+  rows = omega (arith, c.loop-at.invariant.rows, c.send_at.ensures.rows);
+  due = c.send_at.ensures.due ∙ c.loop-at.invariant.due;
+  sent = λ few.
+      c.send_at.ensures.sent
+      (omega (arith, few, c.loop-at.invariant.rows, c.send_at.ensures.rows))
+      (c.loop-at.invariant.sent
+      (omega (arith, few, c.loop-at.invariant.rows, c.send_at.ensures.rows)));
+}
+
+pub returns-clause-sent : goal.returns-clause-sent
+returns-clause-sent g c = λ few.
+    all_sent c.args.self.now.due c.loop-at.at c.loop-at.self.stored _
+    (omega (arith, c.loop-at-test.false, c.len-at-end.ensures))
+    (subst (λ (due : List ℕ). AreSent (take c.loop-at.at due) c.loop-at.self.stored
+    c.loop-at.self.links.items) c.loop-at.invariant.due (c.loop-at.invariant.sent few))

@@ -4,6 +4,6 @@ use Rattle.peer_connections.proofs.connections.Connections.send_last.Goals as go
 
 pub invariant_of-self-clause-paired : goal.invariant_of-self-clause-paired
 invariant_of-self-clause-paired g c =
-    paired_sent _ _ _ _ c.args.self.now.stored _ c.send.ensures
+    paired_sent _ _ _ _ c.args.self.now.stored _ c.send.ensures.stream
     (paired_set c.args.key c.args.self.now.links.items c.in-Some-slot.link _
     c.args.self.now.stored.station.peers (search rules) c.args.self.now.paired)

@@ -22,6 +22,7 @@ returns-in-Some-Failed-clause-moves g c =
     ∙ finished_at c.args.key _)
     c.remove.ensures.left)))
 
+-- .. else it follows its session
 pub returns-in-Some : goal.returns-in-Some
 returns-in-Some g c = record {
   moves = reaches_then _ _ _ _ (reaches_closing _ _ _ c.send_link.ensures.moves)
@@ -29,4 +30,8 @@ returns-in-Some g c = record {
       (reaches_same _ _ _ c.report_again.ensures.stored));
   others = others_then _ _ _ _ c.send_link.ensures.others
       (others_then _ _ _ _ c.follow_session.ensures.others c.report_again.ensures.others);
+  sent = c.report_again.ensures.sent (c.follow_session.ensures.sent c.send_link.ensures.sent);
+  journal = ap (λ (s : StoredState). s.journal) c.report_again.ensures.stored
+      ∙ c.follow_session.ensures.journal ∙ c.send_link.ensures.journal;
+  due = c.report_again.ensures.due ∙ c.follow_session.ensures.due ∙ c.send_link.ensures.due;
 }

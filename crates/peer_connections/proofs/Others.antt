@@ -1,0 +1,240 @@
+-- While no row is added, what is done for one peer leaves what another may be told.
+use Rattle.std.proofs.Common.{◌≡◌, ◌≢◌, ℕ, zero, suc, ◌+◌, ◌≤◌, ◌==◌, Bool, true, false, List}
+use Rattle.std.proofs.Common.{[], ◌∷◌, Option, Some, None, refl, ap, sym, subst, ◌∙◌, inl}
+use Rattle.std.proofs.Common.{inr, length, arith, drop, take, Result, Ok, Err}
+use Rattle.std.proofs.lemmas.Bool.Decides.{nat_tests}
+use Rattle.std.proofs.lemmas.List.{drop_all, length-append, take_all}
+use Rattle.std.specs.Prelude.{◌⊎◌, if◌then◌else◌, is_none, slice_get, OnOk}
+use Rattle.site_base.specs.declared.row.Row.{Row}
+use Rattle.site_book.specs.Book.{Book}
+use Rattle.station.specs.Moves.{StationState, admits_at, finish_at, free, rows_since, take_by}
+use Rattle.station.specs.Moves.{with_end, with_taken, with_turn, without_peer}
+use Rattle.station.specs.Peers.{peer_at, with_notices}
+use Rattle.station.specs.Reads.{owed_at, owed_to}
+use Rattle.station.specs.Runs.{Arrives, EndsRelease, Finishes, Forgets, Leaves, Loses, Move, Says}
+use Rattle.station.specs.Runs.{Takes, after, after_move}
+use Rattle.station.specs.Sessions.{Session, Turn, finish}
+use Rattle.station.proofs.Keeping.{NoMore}
+use Rattle.station.proofs.Notices.{with_notices-none}
+use Rattle.station.proofs.Peers.{peer_at-other}
+use Rattle.station.proofs.Turns.{Grows, grows_none, grows_then, input-grows}
+use Rattle.journal.specs.Stored.{JournalState, StoredState, has_stored, is_all_stored, told_at}
+use Rattle.peer_connections.specs.declared.link.Link.{Link}
+use Rattle.peer_connections.specs.Allowed.{IsClosing}
+use Rattle.peer_connections.specs.Due.{is_due}
+use Rattle.peer_connections.specs.Links.{OthersStay}
+use Rattle.peer_connections.specs.Reaches.{AreAllowed, ReachesBy}
+use Rattle.peer_connections.specs.Sending.{AreSent, IsSent, StopsAt}
+use Rattle.peer_connections.proofs.Sent.{told_none}
+
+-- ---- moves of one key
+
+-- the book goes on; where it has no more rows, any peer but that of key j stays as it was
+record Spares (j k : ℕ) (s t : StationState) : Type 0 where
+  grows : Grows s.book t.book
+  same : k ≢ j → length t.book.rows ≡ length s.book.rows
+      → peer_at t.peers k ≡ peer_at s.peers k
+
+longer : (a b : Book) → Grows a b → length a.rows ≤ length b.rows
+longer a b g =
+    let long = ap length g.rows ∙ length-append a.rows g.more in omega (arith, long)
+
+spares_same : (j k : ℕ) (s : StationState) → Spares j k s s
+spares_same j k s = record { grows = grows_none s.book; same = λ other few. refl }
+
+spares_then : (j k : ℕ) (s t u : StationState) → Spares j k s t → Spares j k t u
+    → Spares j k s u
+spares_then j k s t u one two = record {
+  grows = grows_then s.book t.book u.book one.grows two.grows;
+  same = λ other few.
+      let first = longer s.book t.book one.grows in
+      let last = longer t.book u.book two.grows in
+      two.same other (omega (arith, first, last, few))
+      ∙ one.same other (omega (arith, first, last, few));
+}
+
+spares_turn : (j k : ℕ) (x : Session) (s : StationState) → x.end ≡ None
+    → Spares j k s (with_turn j (finish (record { book = s.book; session = x })) s)
+spares_turn j k x s lasts = record {
+  grows = input-grows (admits_at j x.door s) NoMore (record { book = s.book; session = x }) lasts;
+  same = λ other few.
+      let turn : Turn = finish (record { book = s.book; session = x }) in
+      let none : rows_since s.book turn.book ≡ [] =
+      drop_all (length s.book.rows) turn.book.rows (omega (arith, few)) in
+      peer_at-other j k (Some turn.session) (with_notices (rows_since s.book turn.book) s.peers)
+      other
+      ∙ ap (λ (rows : List Row). peer_at (with_notices rows s.peers) k) none
+      ∙ ap (λ (peers : List (Option Session)). peer_at peers k) (with_notices-none s.peers);
+}
+
+spares_finish : (j k : ℕ) (y : Option Session) (s : StationState)
+    → Spares j k s (finish_at j y s)
+spares_finish j k None s = spares_same j k s
+spares_finish j k (Some x) s = by_test (is_none x.end) refl
+  where
+    turn : Turn
+    turn = finish (record { book = s.book; session = x })
+
+    by_test : (b : Bool) → is_none x.end ≡ b
+        → Spares j k s (if b then with_turn j turn s else s)
+    by_test true is = spares_turn j k x s (by_end x.end is)
+      where
+        by_end : {E : Type 0} (e : Option E) → is_none e ≡ true → e ≡ None
+        by_end None lasts = refl
+        by_end (Some end) lasts = absurd (let never : false ≡ true = lasts in cc)
+    by_test false is = spares_same j k s
+
+spares_freed : (j k : ℕ) (y : Option Session) (s : StationState) → Spares j k s (free j y s)
+spares_freed j k None s = spares_same j k s
+spares_freed j k (Some x) s = record {
+  grows = grows_none s.book;
+  same = λ other few. peer_at-other j k None s.peers other;
+}
+
+spares_taken : (j k n : ℕ) (y : Option Session) (s : StationState)
+    → Spares j k s (take_by j n y s)
+spares_taken j k n None s = spares_same j k s
+spares_taken j k n (Some x) s = record {
+  grows = grows_none s.book;
+  same = λ other few.
+      peer_at-other j k (Some (record x { owed = drop n x.owed })) s.peers other;
+}
+
+spares_move : (j k : ℕ) (m : Move) (s : StationState) → IsClosing j m s
+    → Spares j k s (after_move m s)
+spares_move j k (Takes i n) s is =
+    subst (λ (i : ℕ). Spares j k s (with_taken i n s)) (sym is)
+    (spares_taken j k n (peer_at s.peers j) s)
+spares_move j k (Finishes i) s is =
+    subst (λ (i : ℕ). Spares j k s (with_end i s)) (sym is)
+    (spares_finish j k (peer_at s.peers j) s)
+spares_move j k (Leaves i) s is =
+    let ended = with_end j s in
+    subst (λ (i : ℕ). Spares j k s (without_peer i s)) (sym is.0)
+    (spares_then j k s ended (without_peer j s) (spares_finish j k (peer_at s.peers j) s)
+    (spares_freed j k (peer_at ended.peers j) ended))
+spares_move j k (Arrives i door) s is = absurd is
+spares_move j k (Says memory i octets) s is = absurd is
+spares_move j k (EndsRelease on off p) s is = absurd is
+spares_move j k (Loses memory p) s is = absurd is
+spares_move j k Forgets s is = absurd is
+
+spares_moves : (j k : ℕ) (ms : List Move) (s : StationState) → AreAllowed (IsClosing j) ms s
+    → Spares j k s (after ms s)
+spares_moves j k [] s all = spares_same j k s
+spares_moves j k (m ∷ ms) s all =
+    let next = after_move m s in
+    spares_then j k s next (after ms next) (spares_move j k m s all.0)
+    (spares_moves j k ms next all.1)
+
+spares : (j k : ℕ) (s t : StoredState) → ReachesBy (IsClosing j) s t
+    → Spares j k s.station t.station
+spares j k s t by =
+    subst (Spares j k s.station) (sym by.lead) (spares_moves j k by.moves s.station by.only)
+
+-- ---- who was sent to
+
+count_rows : StoredState → ℕ
+count_rows s = length s.station.book.rows
+
+-- the book has as many rows, or more
+pub rows_stay : (j : ℕ) (s t : StoredState) → ReachesBy (IsClosing j) s t
+    → length s.station.book.rows ≤ length t.station.book.rows
+rows_stay j s t by = longer s.station.book t.station.book (spares j j s t by).grows
+
+told_as : (k : ℕ) (s t : StoredState) → t.journal ≡ s.journal
+    → length t.station.book.rows ≡ length s.station.book.rows
+    → peer_at t.station.peers k ≡ peer_at s.station.peers k → told_at t k ≡ told_at s k
+told_as k s t journal few same =
+    ap (λ (j : Option JournalState).
+    if has_stored (length t.station.book.rows) j then owed_at t.station k else []) journal
+    ∙ ap (λ (n : ℕ). if has_stored n s.journal then owed_at t.station k else []) few
+    ∙ ap (λ (y : Option Session). if is_all_stored s then owed_to y else []) same
+
+sent_other : {S : Type 0} (j k : ℕ) (s t : StoredState) (links links' : List (Option (Link S)))
+    → k ≢ j → ReachesBy (IsClosing j) s t → t.journal ≡ s.journal
+    → length t.station.book.rows ≡ length s.station.book.rows → OthersStay j links links'
+    → IsSent k s links → IsSent k t links'
+sent_other j k s t links links' other by journal few stay (inl none) =
+    inl (told_as k s t journal few ((spares j k s t by).same other few) ∙ none)
+sent_other {S = S} j k s t links links' other by journal few stay (inr stops) =
+    inr (subst (λ (l : Option (Link S)). StopsAt l) (sym (stay.1 k other)) stops)
+
+-- one more of those that are due is sent to
+due_first : (due : List ℕ) (at key k : ℕ) → slice_get due at ≡ Some key
+    → is_due (take (suc at) due) k ≡ true → (key ≡ k) ⊎ (is_due (take at due) k ≡ true)
+due_first [] at key k is now = absurd (let never : None ≡ Some key = is in cc)
+due_first (j ∷ due) zero key k is now = by_key (j == k) refl now
+  where
+    by_key : (b : Bool) → (j == k) ≡ b → (if b then true else false) ≡ true
+        → (key ≡ k) ⊎ (false ≡ true)
+    by_key true same _ =
+        let here : j ≡ k = grind (arith, nat_tests) in
+        let found : Some j ≡ Some key = is in
+        let first : j ≡ key = cc in inl (sym first ∙ here)
+    by_key false other later = inr later
+due_first (j ∷ due) (suc at) key k is now =
+    by_key (j == k) (λ later. due_first due at key k is later) now
+  where
+    by_key : (b : Bool)
+        → (is_due (take (suc at) due) k ≡ true → (key ≡ k) ⊎ (is_due (take at due) k ≡ true))
+        → (if b then true else is_due (take (suc at) due) k) ≡ true
+        → (key ≡ k) ⊎ ((if b then true else is_due (take at due) k) ≡ true)
+    by_key true first _ = inr refl
+    by_key false first later = first later
+
+pub sent_up_to : {S : Type 0} (at key : ℕ) (due : List ℕ) (s t : StoredState)
+    (links links' : List (Option (Link S))) → slice_get due at ≡ Some key
+    → ReachesBy (IsClosing key) s t → t.journal ≡ s.journal
+    → length t.station.book.rows ≡ length s.station.book.rows → OthersStay key links links'
+    → IsSent key t links' → AreSent (take at due) s links → AreSent (take (at + 1) due) t links'
+sent_up_to {S = S} at key due s t links links' is by journal few stay this before k now =
+    let next : at + 1 ≡ suc at = omega arith in
+    by_first (due_first due at key k is
+    (subst (λ (n : ℕ). is_due (take n due) k ≡ true) next now))
+  where
+    by_key : (b : Bool) → (k == key) ≡ b → is_due (take at due) k ≡ true → IsSent k t links'
+    by_key true same was =
+        subst (λ (j : ℕ). IsSent j t links') (grind (arith, nat_tests)) this
+    by_key false other was =
+        sent_other key k s t links links' (grind (arith, nat_tests)) by journal few stay
+        (before k was)
+
+    by_first : (key ≡ k) ⊎ (is_due (take at due) k ≡ true) → IsSent k t links'
+    by_first (inl same) = subst (λ (j : ℕ). IsSent j t links') same this
+    by_first (inr was) = by_key (k == key) refl was
+
+-- all of them were
+pub all_sent : {S : Type 0} (due : List ℕ) (at : ℕ) (s : StoredState)
+    (links : List (Option (Link S))) → length due ≤ at → AreSent (take at due) s links
+    → AreSent due s links
+all_sent due at s links all sent =
+    subst (λ (l : List ℕ). AreSent l s links) (take_all at due all) sent
+
+-- each row was stored all the time
+pub sent_stored : {S : Type 0} (due : List ℕ) (s t u : StoredState)
+    (links : List (Option (Link S))) → is_all_stored s ≡ true → t.journal ≡ s.journal
+    → length t.station.book.rows ≡ length s.station.book.rows → u.station ≡ t.station
+    → AreSent due t links → AreSent due u links
+sent_stored due s t u links stored journal few same sent k now = by_sent (sent k now)
+  where
+    still : is_all_stored t ≡ true
+    still =
+        ap (λ (j : Option JournalState). has_stored (length t.station.book.rows) j) journal
+        ∙ ap (λ (n : ℕ). has_stored n s.journal) few ∙ stored
+
+    by_sent : IsSent k t links → IsSent k u links
+    by_sent (inr stops) = inr stops
+    by_sent (inl none) =
+        inl (told_none k u
+        (ap (λ (v : StationState). owed_at v k) same
+        ∙ sym (ap (λ (b : Bool). if b then owed_at t.station k else []) still) ∙ none))
+
+pub sent_by : {S : Type 0} (due : List ℕ) (s : StoredState) (links links' : List (Option (Link S)))
+    → links' ≡ links → AreSent due s links → AreSent due s links'
+sent_by {S = S} due s links links' same sent =
+    subst (λ (l : List (Option (Link S))). AreSent due s l) (sym same) sent
+
+pub on_ok : {T E : Type 0} (r : Result T E) (P : Type 0) → P → OnOk r P
+on_ok (Ok a) P p = p
+on_ok (Err e) P p = tt
