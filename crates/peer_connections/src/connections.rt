@@ -266,8 +266,8 @@ impl<D: Disk> Connections<D> {
     {
         if let Some(slot) = self.links.get_mut(key) {
             if let Some(link) = slot {
-                if link.closing_since.is_some() {
-                    link.ignore(&mut self.piece);
+                if self.stored.end(key).is_some() {
+                    link.ignore(&self.stored, key, &mut self.piece);
                     return Ok(false);
                 }
                 if link.held_until.is_some() {
@@ -743,6 +743,7 @@ impl<D: Disk> Connections<D> {
     {
         for key in 0..PEERS {
             self.send_last(key, now);
+            self.ignore_ended(key);
         }
     }
 
@@ -759,8 +760,7 @@ impl<D: Disk> Connections<D> {
         let _ = self.stored.book();
     }
 
-    /// A peer is sent what it is owed, and told that nothing more will come. What it has sent is
-    /// read, since a connection that is closed before that loses what was sent last.
+    /// A peer is sent what it is owed, and told that nothing more will come.
     #[tactic(auto, using(crate::proofs::Streaming::sent, crate::proofs::Pairing::paired))]
     fn send_last(&mut self, key: usize, now: Instant)
         ensures moves { ReachesBy (IsSending key) self.old.stored self.new.stored }
@@ -770,7 +770,23 @@ impl<D: Disk> Connections<D> {
             if let Some(link) = slot {
                 link.send(&mut self.stored, key, now);
                 link.shut();
-                link.ignore(&mut self.piece);
+            }
+        }
+    }
+
+    /// What a peer has sent whose session has ended is read, and nobody hears it: a connection that
+    /// is closed before that loses what was sent last.
+    #[tactic(auto, using(crate::proofs::Pairing::paired))]
+    fn ignore_ended(&mut self, key: usize)
+        ensures stored { self.new.stored ≡ self.old.stored }
+        ensures others { OthersStay key self.old.links.items self.new.links.items }
+    {
+        if self.stored.end(key).is_none() {
+            return;
+        }
+        if let Some(slot) = self.links.get_mut(key) {
+            if let Some(link) = slot {
+                link.ignore(&self.stored, key, &mut self.piece);
             }
         }
     }

@@ -1,7 +1,8 @@
 //! A peer's connection.
 
-ghost use Rattle.std.specs.Prelude.{◌≡◌, ◌⊎◌, [], length};
+ghost use Rattle.std.specs.Prelude.{◌≡◌, ◌⊎◌, [], false, length};
 ghost use Rattle.station.specs.declared.sizes.TheConstants.{HEARD_OCTETS};
+ghost use Rattle.peer_connections.specs.Allowed.{lasts_at};
 ghost use Rattle.journal.specs.Stored.{told_at};
 ghost use Rattle.peer_connections.specs.Sending.{HasStopped};
 ghost use Rattle.peer_connections.specs.Streams.{HearsStream, SendsStream};
@@ -166,7 +167,16 @@ impl<S: Read> Link<S> {
 
     /// Reads what a peer sends whose session has ended, and has nobody hear it: until there is no
     /// more for now, or its turn is over.
-    pub(crate) fn ignore(&mut self, piece: &mut [u8]) {
+    pub(crate) fn ignore<D: Disk>(
+        &mut self,
+        stored: &StoredStation<D>,
+        key: usize,
+        piece: &mut [u8],
+    )
+        requires ended { lasts_at stored.now.station key ≡ false }
+    {
+        // That is why nobody hears it.
+        let _ = stored.end(key);
         self.is_unread = true;
         for _ in 0..CALLS_A_TURN {
             match read_ignored(&mut self.stream, piece) {
