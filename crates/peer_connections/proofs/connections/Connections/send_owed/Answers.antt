@@ -2,7 +2,8 @@ use Rattle.std.proofs.Common.{ap, ◌∙◌}
 use Rattle.journal.specs.Stored.{StoredState}
 use Rattle.peer_connections.specs.Allowed.{lasts_at}
 use Rattle.peer_connections.proofs.Linking.{others_then}
-use Rattle.peer_connections.proofs.Reaching.{finished_at, over_at, reaches_closing, reaches_finished}
+use Rattle.peer_connections.proofs.Reaching.{finished_at, over_at, reaches_closing}
+use Rattle.peer_connections.proofs.Reaching.{reaches_finished}
 use Rattle.peer_connections.proofs.Reaching.{reaches_gone, reaches_same, reaches_then}
 use Rattle.peer_connections.proofs.connections.Connections.send_owed.Goals as goal
 
