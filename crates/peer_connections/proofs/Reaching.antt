@@ -227,6 +227,12 @@ finished_at k s = by_peer (peer_at s.peers k) refl
             (with_notices (rows_since s.book turn.book) s.peers))
         by_test false is = ap lasts there ∙ is
 
+-- .. where the station came to that
+pub over_at : (k : ℕ) (s t : StoredState) → t ≡ with_station (with_end k s.station) s
+    → lasts_at t.station k ≡ false
+over_at k s t end =
+    ap (λ (u : StoredState). lasts_at u.station k) end ∙ finished_at k s.station
+
 -- ---- a peer comes
 
 -- a key that is a place there, and that nobody has, is given

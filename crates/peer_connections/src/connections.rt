@@ -587,6 +587,7 @@ impl<D: Disk> Connections<D> {
     /// it ended otherwise than with its peer's octets.
     #[tactic(auto, using(crate::proofs::Sent::sent_to))]
     fn begin_to_close<E: Eprint>(&mut self, rt: &E, key: usize, now: Instant)
+        requires { lasts_at self.old.stored.station key ≡ false }
         ensures stored { self.new.stored ≡ self.old.stored }
         ensures others { OthersStay key self.old.links.items self.new.links.items }
         ensures sent { IsSent key self.old.stored self.old.links.items
@@ -606,9 +607,11 @@ impl<D: Disk> Connections<D> {
         }
     }
 
-    /// The connection of a peer is one that closes; false where it was one.
+    /// The session of a peer has ended: its connection is one that closes, and nobody hears what it
+    /// still brings. False where it was one.
     #[tactic(auto, using(crate::proofs::Sent::sent_to))]
     pub(crate) fn note_closing(&mut self, key: usize, now: Instant) -> bool
+        requires { lasts_at self.old.stored.station key ≡ false }
         ensures stored { self.new.stored ≡ self.old.stored }
         ensures others { OthersStay key self.old.links.items self.new.links.items }
         ensures sent { IsSent key self.old.stored self.old.links.items

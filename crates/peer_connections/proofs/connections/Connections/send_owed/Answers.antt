@@ -2,9 +2,14 @@ use Rattle.std.proofs.Common.{ap, ◌∙◌}
 use Rattle.journal.specs.Stored.{StoredState}
 use Rattle.peer_connections.specs.Allowed.{lasts_at}
 use Rattle.peer_connections.proofs.Linking.{others_then}
-use Rattle.peer_connections.proofs.Reaching.{finished_at, reaches_closing, reaches_finished}
+use Rattle.peer_connections.proofs.Reaching.{finished_at, over_at, reaches_closing}
+use Rattle.peer_connections.proofs.Reaching.{reaches_finished}
 use Rattle.peer_connections.proofs.Reaching.{reaches_gone, reaches_same, reaches_then}
 use Rattle.peer_connections.proofs.connections.Connections.send_owed.Goals as goal
+
+-- its session has ended before its connection closes
+pub begin_to_close-requires : goal.begin_to_close-requires
+begin_to_close-requires g c = over_at c.args.key c.send_link.new.self.stored _ c.finish.ensures
 
 -- it has no connection
 pub returns-in-None-clause-moves : goal.returns-in-None-clause-moves
