@@ -167,7 +167,7 @@ def help_texts():
         lines = expect_help(f"{first} it knows", word)
         for text in (
             "check", "replay", "report", "serve", "station", "demo", "shifts", "next", "explain",
-            "sales", "spell", "Print help", "Print version",
+            "sales", "spell", "ask", "Print help", "Print version",
         ):
             found = any(line.startswith("  ") and text in line for line in lines)
             expect(f"{word} speaks of {text}", found, True)
@@ -210,6 +210,11 @@ def help_texts():
             " history, as CSV",
         ),
         ("spell", "Prints the requests that standard input asks for in words, in hexadecimal"),
+        (
+            "ask",
+            "Asks a station that runs for the requests that standard input says in words, and"
+            " prints its replies",
+        ),
     ):
         lines = expect_help(first, command, "--help")
         is_example = lines[-1].startswith("Example") and f"forecourt {command} " in lines[-1]
