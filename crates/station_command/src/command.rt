@@ -6,6 +6,7 @@ ghost use Rattle.std.specs.Prelude.{◌≡◌};
 ghost use Rattle.station.specs.Gates.{open_gates};
 ghost use Rattle.station.specs.Runs.{opening_station};
 ghost use Rattle.journal.specs.Opening.{HasNobodyOn};
+ghost use Rattle.station_command.specs.Histories.{IsFound};
 
 use crate::doors::open_doors;
 use crate::error_lines::{ErrorLines, Reporting};
@@ -112,6 +113,7 @@ fn run_opened<
     requires alone { opened.station.station
         ≡ opening_station open_gates opened.station.station.book }
     requires off { HasNobodyOn opened.station.station.book }
+    requires found { IsFound found opened.station.journal }
 {
     let house = match find_house(opened.station.book().config(), plans.house.house) {
         Ok(house) => house,
@@ -182,6 +184,7 @@ fn serve_on<R: StationHost, T: Threads + Wait + Sync, I: Read + Send + Drop + 's
     requires alone { opened.station.station
         ≡ opening_station opened.station.station.gates opened.station.station.book }
     requires off { HasNobodyOn opened.station.station.book }
+    requires found { IsFound found opened.station.journal }
 {
     let mut connections = Connections::new(
         rt.alloc(),

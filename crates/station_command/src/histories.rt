@@ -10,7 +10,7 @@ ghost use Rattle.chapters.specs.History.{empty_book};
 ghost use Rattle.history_folder.specs.Names.{path_in};
 ghost use Rattle.journal.specs.Opening.{HasNobodyOn, Reopens};
 ghost use Rattle.program_io.specs.Statuses.{IsFailed};
-ghost use Rattle.station_command.specs.Histories.{GoesOn};
+ghost use Rattle.station_command.specs.Histories.{GoesOn, IsFound};
 
 use crate::found::FoundHistory;
 use crate::station_site::{history_site, read_station_site};
@@ -38,6 +38,7 @@ pub fn open_station<'a, R: Files<File = File> + Clock + Eprint + AllocGlobal>(
     ensures kept { IfSome history.entry (λ _. IfOk result
         (λ o. GoesOn o.0.rows o.0.station)) }
     ensures unkept { IfNone history.entry (IfOk result (λ o. o.0.station.journal ≡ None)) }
+    ensures found { IfOk result (λ o. IsFound o.1 o.0.station.journal) }
 {
     match (history, site) {
         (Some(folder), site) => open_kept(rt, folder, site),
@@ -58,6 +59,7 @@ fn open_unkept<'a, R: Files<File = File> + Eprint + AllocGlobal>(
         (λ o. o.0.station.station ≡ opening_station open_gates o.0.station.station.book) }
     ensures off { IfOk result (λ o. HasNobodyOn o.0.station.station.book) }
     ensures journal { IfOk result (λ o. o.0.station.journal ≡ None) }
+    ensures found { IfOk result (λ o. IsFound o.1 o.0.station.journal) }
     ensures failed { IfErr result IsFailed }
 {
     let (config, _) = read_station_site(rt, site)?;
@@ -95,6 +97,7 @@ fn open_kept<'a, R: Files<File = File> + Clock + Eprint + AllocGlobal>(
         (λ o. o.0.station.station ≡ opening_station open_gates o.0.station.station.book) }
     ensures off { IfOk result (λ o. HasNobodyOn o.0.station.station.book) }
     ensures goes_on { IfOk result (λ o. GoesOn o.0.rows o.0.station) }
+    ensures found { IfOk result (λ o. IsFound o.1 o.0.station.journal) }
     ensures failed { IfErr result IsFailed }
 {
     let folder = match HistoryFolder::lock(rt, name) {
