@@ -24,7 +24,7 @@ use Rattle.peer_connections.specs.Allowed.{IsClosing}
 use Rattle.peer_connections.specs.Due.{is_due}
 use Rattle.peer_connections.specs.Links.{OthersStay}
 use Rattle.peer_connections.specs.Reaches.{AreAllowed, ReachesBy}
-use Rattle.peer_connections.specs.Sending.{AreSent, IsSent, StopsAt}
+use Rattle.peer_connections.specs.Sending.{AreSentTo, IsSentTo, StopsAt}
 use Rattle.peer_connections.proofs.Sent.{told_none}
 
 -- ---- moves of one key
@@ -154,7 +154,7 @@ told_as k s t journal few same =
 sent_other : {S : Type 0} (j k : ℕ) (s t : StoredState) (links links' : List (Option (Link S)))
     → k ≢ j → ReachesBy (IsClosing j) s t → t.journal ≡ s.journal
     → length t.station.book.rows ≡ length s.station.book.rows → OthersStay j links links'
-    → IsSent k s links → IsSent k t links'
+    → IsSentTo k s links → IsSentTo k t links'
 sent_other j k s t links links' other by journal few stay (inl none) =
     inl (told_as k s t journal few ((spares j k s t by).same other few) ∙ none)
 sent_other {S = S} j k s t links links' other by journal few stay (inr stops) =
@@ -187,35 +187,35 @@ pub sent_up_to : {S : Type 0} (at key : ℕ) (due : List ℕ) (s t : StoredState
     (links links' : List (Option (Link S))) → slice_get due at ≡ Some key
     → ReachesBy (IsClosing key) s t → t.journal ≡ s.journal
     → length t.station.book.rows ≡ length s.station.book.rows → OthersStay key links links'
-    → IsSent key t links' → AreSent (take at due) s links → AreSent (take (at + 1) due) t links'
+    → IsSentTo key t links' → AreSentTo (take at due) s links → AreSentTo (take (at + 1) due) t links'
 sent_up_to {S = S} at key due s t links links' is by journal few stay this before k now =
     let next : at + 1 ≡ suc at = omega arith in
     by_first (due_first due at key k is
     (subst (λ (n : ℕ). is_due (take n due) k ≡ true) next now))
   where
-    by_key : (b : Bool) → (k == key) ≡ b → is_due (take at due) k ≡ true → IsSent k t links'
+    by_key : (b : Bool) → (k == key) ≡ b → is_due (take at due) k ≡ true → IsSentTo k t links'
     by_key true same was =
-        subst (λ (j : ℕ). IsSent j t links') (grind (arith, nat_tests)) this
+        subst (λ (j : ℕ). IsSentTo j t links') (grind (arith, nat_tests)) this
     by_key false other was =
         sent_other key k s t links links' (grind (arith, nat_tests)) by journal few stay
         (before k was)
 
-    by_first : (key ≡ k) ⊎ (is_due (take at due) k ≡ true) → IsSent k t links'
-    by_first (inl same) = subst (λ (j : ℕ). IsSent j t links') same this
+    by_first : (key ≡ k) ⊎ (is_due (take at due) k ≡ true) → IsSentTo k t links'
+    by_first (inl same) = subst (λ (j : ℕ). IsSentTo j t links') same this
     by_first (inr was) = by_key (k == key) refl was
 
 -- all of them were
 pub all_sent : {S : Type 0} (due : List ℕ) (at : ℕ) (s : StoredState)
-    (links : List (Option (Link S))) → length due ≤ at → AreSent (take at due) s links
-    → AreSent due s links
+    (links : List (Option (Link S))) → length due ≤ at → AreSentTo (take at due) s links
+    → AreSentTo due s links
 all_sent due at s links all sent =
-    subst (λ (l : List ℕ). AreSent l s links) (take_all at due all) sent
+    subst (λ (l : List ℕ). AreSentTo l s links) (take_all at due all) sent
 
 -- each row was stored all the time
 pub sent_stored : {S : Type 0} (due : List ℕ) (s t u : StoredState)
     (links : List (Option (Link S))) → is_all_stored s ≡ true → t.journal ≡ s.journal
     → length t.station.book.rows ≡ length s.station.book.rows → u.station ≡ t.station
-    → AreSent due t links → AreSent due u links
+    → AreSentTo due t links → AreSentTo due u links
 sent_stored due s t u links stored journal few same sent k now = by_sent (sent k now)
   where
     still : is_all_stored t ≡ true
@@ -223,7 +223,7 @@ sent_stored due s t u links stored journal few same sent k now = by_sent (sent k
         ap (λ (j : Option JournalState). has_stored (length t.station.book.rows) j) journal
         ∙ ap (λ (n : ℕ). has_stored n s.journal) few ∙ stored
 
-    by_sent : IsSent k t links → IsSent k u links
+    by_sent : IsSentTo k t links → IsSentTo k u links
     by_sent (inr stops) = inr stops
     by_sent (inl none) =
         inl (told_none k u
@@ -231,9 +231,9 @@ sent_stored due s t u links stored journal few same sent k now = by_sent (sent k
         ∙ sym (ap (λ (b : Bool). if b then owed_at t.station k else []) still) ∙ none))
 
 pub sent_by : {S : Type 0} (due : List ℕ) (s : StoredState) (links links' : List (Option (Link S)))
-    → links' ≡ links → AreSent due s links → AreSent due s links'
+    → links' ≡ links → AreSentTo due s links → AreSentTo due s links'
 sent_by {S = S} due s links links' same sent =
-    subst (λ (l : List (Option (Link S))). AreSent due s l) (sym same) sent
+    subst (λ (l : List (Option (Link S))). AreSentTo due s l) (sym same) sent
 
 pub on_ok : {T E : Type 0} (r : Result T E) (P : Type 0) → P → OnOk r P
 on_ok (Ok a) P p = p

@@ -1,13 +1,13 @@
 -- Moves of a station, one after another.
 use Rattle.std.proofs.Common.{◌≡◌, ℕ, List, [], ◌∷◌, ◌++◌, Option, Some, None, refl, sym, ap, ◌∙◌}
-use Rattle.std.proofs.Common.{◌+◌, ◌<◌, ◌≤◌, Bool, arith, false, inl, inr, subst, true}
+use Rattle.std.proofs.Common.{◌+◌, ◌*◌, ◌<◌, ◌≤◌, Bool, arith, false, inl, inr, subst, true}
 use Rattle.std.proofs.Common.{append-nil}
 use Rattle.std.specs.Io.KnownBytes.{Consumes, Keeps}
 use Rattle.devices.proofs.KnownBytes.{Consumes-kept, Consumes-none}
 use Rattle.std.specs.Prelude.{IfSome, ◌&&◌, is_none, nat_lt, slice_get, if◌then◌else◌}
 use Rattle.std.proofs.lemmas.Bool.Decides.{nat_tests}
 use Rattle.station.specs.declared.peer_end.PeerEnd.{PeerEnd}
-use Rattle.station.specs.declared.sizes.TheConstants.{FREE_PLACES}
+use Rattle.station.specs.declared.sizes.TheConstants.{FREE_PLACES, NODE_SESSIONS}
 use Rattle.station.specs.Moves.{StationState, end_release, finish_at, lose, rows_since}
 use Rattle.station.specs.Moves.{with_arrival}
 use Rattle.station.specs.Moves.{with_end, with_turn, without_peer}
@@ -26,9 +26,10 @@ use Rattle.journal.proofs.Fronts.{files_same, files_then}
 use Rattle.connection_calls.specs.declared.call.Call.{Call}
 use Rattle.connection_calls.specs.declared.call.Call.TheVariants.{Ended, Failed, Interrupted}
 use Rattle.connection_calls.specs.declared.call.Call.TheVariants.{Passed, Waits}
-use Rattle.peer_connections.specs.Allowed.{IsClosing, IsDismissal, IsHearing, IsLate, IsOwn}
-use Rattle.peer_connections.specs.Allowed.{IsSending, IsWelcome, is_known, is_served_at, lasts}
-use Rattle.peer_connections.specs.Allowed.{lasts_at}
+use Rattle.peer_connections.specs.Allowed.{IsClosing, IsDismissal, IsEnding, IsFollowing}
+use Rattle.peer_connections.specs.Allowed.{IsHearing, IsLate, IsOwn, IsPassing, IsSameOrLeft}
+use Rattle.peer_connections.specs.Allowed.{IsSending, IsWelcome, is_known, is_place_of}
+use Rattle.peer_connections.specs.Allowed.{is_served_at, lasts, lasts_at}
 use Rattle.peer_connections.specs.Calls.{HearsCall, HearsWithRoom, SendsCall}
 use Rattle.peer_connections.specs.Reaches.{AreAllowed, FindRoom, FindsRoom, IsAny, Reaches}
 use Rattle.peer_connections.specs.Reaches.{ReachesBy}
@@ -141,13 +142,13 @@ reaches_closing k s t by = reaches_wider (IsSending k) (IsClosing k) wider s t b
     wider (Loses memory p) u is = absurd is
     wider Forgets u is = absurd is
 
--- whoever leaves may do so for a peer that comes
-pub reaches_welcome : (door : Option ℕ) (s t : StoredState) → ReachesBy IsDismissal s t
+-- whoever leaves may do so for a peer that comes at the same door
+pub reaches_welcome : (door : Option ℕ) (s t : StoredState) → ReachesBy (IsDismissal door) s t
     → ReachesBy (IsWelcome door) s t
-reaches_welcome door s t by = reaches_wider IsDismissal (IsWelcome door) wider s t by
+reaches_welcome door s t by = reaches_wider (IsDismissal door) (IsWelcome door) wider s t by
   where
-    wider : (m : Move) (u : StationState) → IsDismissal m u → IsWelcome door m u
-    wider (Leaves j) u is = is
+    wider : (m : Move) (u : StationState) → IsDismissal door m u → IsWelcome door m u
+    wider (Leaves j) u is = (inl is.0, is.1)
     wider (Takes j n) u is = absurd is
     wider (Arrives j at) u is = absurd is
     wider (Says memory j octets) u is = absurd is
@@ -155,6 +156,94 @@ reaches_welcome door s t by = reaches_wider IsDismissal (IsWelcome door) wider s
     wider (EndsRelease on off p) u is = absurd is
     wider (Loses memory p) u is = absurd is
     wider Forgets u is = absurd is
+
+-- .. and whoever leaves over TCP for one at any door
+pub reaches_way : (door : Option ℕ) (s t : StoredState) → ReachesBy (IsDismissal None) s t
+    → ReachesBy (IsWelcome door) s t
+reaches_way door s t by = reaches_wider (IsDismissal None) (IsWelcome door) wider s t by
+  where
+    wider : (m : Move) (u : StationState) → IsDismissal None m u → IsWelcome door m u
+    wider (Leaves j) u is = (inr is.0, is.1)
+    wider (Takes j n) u is = absurd is
+    wider (Arrives j at) u is = absurd is
+    wider (Says memory j octets) u is = absurd is
+    wider (Finishes j) u is = absurd is
+    wider (EndsRelease on off p) u is = absurd is
+    wider (Loses memory p) u is = absurd is
+    wider Forgets u is = absurd is
+
+-- whoever closes follows its session
+pub reaches_following : (k : ℕ) (s t : StoredState) → ReachesBy (IsClosing k) s t
+    → ReachesBy IsFollowing s t
+reaches_following k s t by = reaches_wider (IsClosing k) IsFollowing wider s t by
+  where
+    wider : (m : Move) (u : StationState) → IsClosing k m u → IsFollowing m u
+    wider (Takes j n) u is = tt
+    wider (Finishes j) u is = tt
+    wider (Leaves j) u is = is.1
+    wider (Arrives j door) u is = absurd is
+    wider (Says memory j octets) u is = absurd is
+    wider (EndsRelease on off p) u is = absurd is
+    wider (Loses memory p) u is = absurd is
+    wider Forgets u is = absurd is
+
+-- .. may be sent to at the day's end
+pub reaches_ending : (k : ℕ) (s t : StoredState) → ReachesBy (IsSending k) s t
+    → ReachesBy IsEnding s t
+reaches_ending k s t by = reaches_wider (IsSending k) IsEnding wider s t by
+  where
+    wider : (m : Move) (u : StationState) → IsSending k m u → IsEnding m u
+    wider (Takes j n) u is = tt
+    wider (Arrives j door) u is = absurd is
+    wider (Says memory j octets) u is = absurd is
+    wider (Finishes j) u is = absurd is
+    wider (Leaves j) u is = absurd is
+    wider (EndsRelease on off p) u is = absurd is
+    wider (Loses memory p) u is = absurd is
+    wider Forgets u is = absurd is
+
+-- what is done as time passes: connections follow their sessions
+pub reaches_passing : (s t : StoredState) → ReachesBy IsFollowing s t → ReachesBy IsPassing s t
+reaches_passing s t by = reaches_wider IsFollowing IsPassing wider s t by
+  where
+    wider : (m : Move) (u : StationState) → IsFollowing m u → IsPassing m u
+    wider (Takes j n) u is = tt
+    wider (Finishes j) u is = tt
+    wider (Leaves j) u is = tt
+    wider (Arrives j door) u is = absurd is
+    wider (Says memory j octets) u is = absurd is
+    wider (EndsRelease on off p) u is = absurd is
+    wider (Loses memory p) u is = absurd is
+    wider Forgets u is = absurd is
+
+-- .. whoever is late leaves
+pub reaches_passing_late : (k : ℕ) (s t : StoredState) → ReachesBy (IsLate k) s t
+    → ReachesBy IsPassing s t
+reaches_passing_late k s t by = reaches_wider (IsLate k) IsPassing wider s t by
+  where
+    wider : (m : Move) (u : StationState) → IsLate k m u → IsPassing m u
+    wider (Finishes j) u is = tt
+    wider (Leaves j) u is = tt
+    wider (Takes j n) u is = absurd is
+    wider (Arrives j door) u is = absurd is
+    wider (Says memory j octets) u is = absurd is
+    wider (EndsRelease on off p) u is = absurd is
+    wider (Loses memory p) u is = absurd is
+    wider Forgets u is = absurd is
+
+-- .. and the station acts by itself
+pub reaches_passing_own : (s t : StoredState) → ReachesBy IsOwn s t → ReachesBy IsPassing s t
+reaches_passing_own s t by = reaches_wider IsOwn IsPassing wider s t by
+  where
+    wider : (m : Move) (u : StationState) → IsOwn m u → IsPassing m u
+    wider (EndsRelease on off p) u is = tt
+    wider (Loses memory p) u is = tt
+    wider Forgets u is = tt
+    wider (Takes j n) u is = absurd is
+    wider (Finishes j) u is = absurd is
+    wider (Leaves j) u is = absurd is
+    wider (Arrives j door) u is = absurd is
+    wider (Says memory j octets) u is = absurd is
 
 -- one move
 reaches_by : (allowed : Move → StationState → Type 0) (m : Move) (s t : StoredState)
@@ -194,10 +283,29 @@ pub reaches_late : (k : ℕ) (s t : StoredState) → t ≡ with_station (without
     → ReachesBy (IsLate k) s t
 reaches_late k s t left = reaches_moved (IsLate k) (Leaves k) s t tt refl left
 
-pub reaches_dismissed : (k : ℕ) (s t : StoredState) → is_served_at s.station k ≡ false
-    → t ≡ with_station (without_peer k s.station) s → ReachesBy IsDismissal s t
-reaches_dismissed k s t unserved left =
-    reaches_moved IsDismissal (Leaves k) s t tt unserved left
+-- .. at the day's end
+pub reaches_ended : (k : ℕ) (s t : StoredState) → t ≡ with_station (with_end k s.station) s
+    → ReachesBy IsEnding s t
+reaches_ended k s t end = reaches_moved IsEnding (Finishes k) s t tt tt end
+
+pub reaches_left : (k : ℕ) (s t : StoredState) → t ≡ with_station (without_peer k s.station) s
+    → ReachesBy IsEnding s t
+reaches_left k s t left = reaches_moved IsEnding (Leaves k) s t tt tt left
+
+-- .. for another one
+pub reaches_dismissed : (door : Option ℕ) (k : ℕ) (s t : StoredState)
+    → is_place_of door k ≡ true → is_served_at s.station k ≡ false
+    → t ≡ with_station (without_peer k s.station) s → ReachesBy (IsDismissal door) s t
+reaches_dismissed door k s t place unserved left =
+    reaches_moved (IsDismissal door) (Leaves k) s t tt (place, unserved) left
+
+-- .. since it got no connection
+pub reaches_unlinked : (door : Option ℕ) (k : ℕ) (s t : StoredState)
+    → is_place_of door k ≡ true → is_served_at s.station k ≡ false → IsSameOrLeft k s t
+    → ReachesBy (IsWelcome door) s t
+reaches_unlinked door k s t place unserved (inl same) = reaches_same (IsWelcome door) s t same
+reaches_unlinked door k s t place unserved (inr left) =
+    reaches_moved (IsWelcome door) (Leaves k) s t tt (inl place, unserved) left
 
 -- where its end is known, its session doesn't last
 pub ended_at : (k : ℕ) (s : StationState) (end : PeerEnd) → end_at s k ≡ Some end
@@ -273,6 +381,29 @@ came_unserved_at door key s t = by_node (slice_get s.gates.doors door) key
     by_node None (Some k) gets = absurd (let never : Some k ≡ None = gets.0 in cc)
     by_node (Some node) None gets = tt
     by_node (Some node) (Some k) gets = arrived_unserved k (Some node) s t gets.3
+
+-- it came to a place there
+pub came_to_place : (key : Option ℕ) (s t : StationState) → GetsKey key s t
+    → IfSome key (λ k. is_place_of None k ≡ true)
+came_to_place None s t gets = tt
+came_to_place (Some k) s t gets = free_place k gets.1
+
+pub came_to_place_at : (door : ℕ) (key : Option ℕ) (s t : StationState) → ArrivesAt door key s t
+    → IfSome key (λ k. is_place_of (Some door) k ≡ true)
+came_to_place_at door key s t = by_node (slice_get s.gates.doors door) key
+  where
+    by_node : (node : Option (List ℕ)) (key : Option ℕ) → arrives_at node door key s t
+        → IfSome key (λ k. is_place_of (Some door) k ≡ true)
+    by_node None None gets = tt
+    by_node None (Some k) gets = absurd (let never : Some k ≡ None = gets.0 in cc)
+    by_node (Some node) None gets = tt
+    by_node (Some node) (Some k) gets = place_at door k gets.0 gets.1
+
+-- the keys from a door's first place on, as far as they go, are its places
+pub of_key : (door first last k : ℕ) → first ≡ FREE_PLACES + NODE_SESSIONS * door
+    → last ≤ first + NODE_SESSIONS → first ≤ k → k < last → is_place_at door k ≡ true
+of_key door first last k is few low high =
+    place_at door k (omega (arith, is, low)) (omega (arith, is, few, high))
 
 -- a peer came, if there was a key for it
 pub reaches_arrival : (key : Option ℕ) (s t : StoredState) → GetsKey key s.station t.station
@@ -428,13 +559,48 @@ pub ruleset welcomed = (
   goes_same,
   came_unserved,
   came_unserved_at,
+  came_to_place,
+  came_to_place_at,
   reaches_same,
   reaches_then,
   reaches_kept,
   reaches_welcome,
+  reaches_way,
   reaches_dismissed,
+  reaches_unlinked,
   reaches_arrival,
   reaches_door,
+)
+
+-- .. connections that follow their sessions
+pub ruleset followed = (
+  goes_same,
+  reaches_same,
+  reaches_then,
+  reaches_kept,
+  reaches_following,
+)
+
+-- .. the end of a day
+pub ruleset ended = (
+  goes_same,
+  reaches_same,
+  reaches_then,
+  reaches_kept,
+  reaches_ending,
+  reaches_ended,
+  reaches_left,
+)
+
+-- .. time that passes
+pub ruleset passed = (
+  goes_same,
+  reaches_same,
+  reaches_then,
+  reaches_kept,
+  reaches_passing,
+  reaches_passing_late,
+  reaches_passing_own,
 )
 
 -- .. a connection that closes

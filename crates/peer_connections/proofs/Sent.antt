@@ -14,7 +14,7 @@ use Rattle.connection_calls.specs.declared.call.Call.TheVariants.{Passed, Waits}
 use Rattle.peer_connections.specs.declared.link.Link.{Link}
 use Rattle.peer_connections.specs.Calls.{SendsCall}
 use Rattle.peer_connections.specs.Links.{ArePaired}
-use Rattle.peer_connections.specs.Sending.{HasStopped, IsSent, StopsAt}
+use Rattle.peer_connections.specs.Sending.{HasStopped, IsSentTo, StopsAt}
 use Rattle.peer_connections.proofs.Leaving.{left_gone}
 use Rattle.peer_connections.proofs.Linking.{others_same, others_set}
 use Rattle.peer_connections.proofs.Pairing.{paired_ended, paired_set}
@@ -38,7 +38,7 @@ written_journal Failed key got got' s t sends = ap (λ (u : StoredState). u.jour
 
 -- nor is anybody without a connection
 pub sent_nobody : {S : Type 0} (k : ℕ) (s : StoredState) (links : List (Option (Link S)))
-    → ArePaired links s.station.peers → get_or links k None ≡ None → IsSent k s links
+    → ArePaired links s.station.peers → get_or links k None ≡ None → IsSentTo k s links
 sent_nobody k s links paired none =
     inl (told_none k s (by_peer (peer_at s.station.peers k) (sym (paired k) ∙ ap is_some none)))
   where
@@ -48,7 +48,7 @@ sent_nobody k s links paired none =
 
 -- nor one that has left
 pub sent_left : {S : Type 0} (k : ℕ) (s t : StoredState) (links : List (Option (Link S)))
-    → t ≡ with_station (without_peer k s.station) s → IsSent k t links
+    → t ≡ with_station (without_peer k s.station) s → IsSentTo k t links
 sent_left k s t links left =
     inl (told_none k t
     (ap (λ (u : StoredState). owed_at u.station k) left ∙ ap owed_to (left_gone k s.station)))
@@ -62,7 +62,7 @@ there (suc k) (y ∷ links) old link is = there k links old link is
 
 pub sent_link : {S : Type 0} (k : ℕ) (s : StoredState) (links : List (Option (Link S)))
     (old link : Link S) → get_or links k None ≡ Some old
-    → (told_at s k ≡ []) ⊎ HasStopped link → IsSent k s (set links k (Some link))
+    → (told_at s k ≡ []) ⊎ HasStopped link → IsSentTo k s (set links k (Some link))
 sent_link k s links old link is (inl none) = inl none
 sent_link {S = S} k s links old link is (inr stopped) =
     inr (subst (λ (l : Option (Link S)). StopsAt l) (sym (there k links old link is)) stopped)
@@ -71,7 +71,7 @@ sent_link {S = S} k s links old link is (inr stopped) =
 pub stays_sent : {S : Type 0} (k : ℕ) (s t : StoredState) (links : List (Option (Link S)))
     (old link : Link S) → get_or links k None ≡ Some old → t ≡ s
     → link.is_full ≡ old.is_full → link.is_unsent ≡ old.is_unsent
-    → link.channel ≡ old.channel → IsSent k s links → IsSent k t (set links k (Some link))
+    → link.channel ≡ old.channel → IsSentTo k s links → IsSentTo k t (set links k (Some link))
 stays_sent k s t links old link is same full unsent channel (inl none) =
     inl (ap (λ (u : StoredState). told_at u k) same ∙ none)
 stays_sent {S = S} k s t links old link is same full unsent channel (inr stops) =
@@ -85,7 +85,7 @@ stays_sent {S = S} k s t links old link is same full unsent channel (inr stops) 
 
 -- nothing is changed
 pub sent_same : {S : Type 0} (k : ℕ) (s t : StoredState) (links links' : List (Option (Link S)))
-    → t ≡ s → links' ≡ links → IsSent k s links → IsSent k t links'
+    → t ≡ s → links' ≡ links → IsSentTo k s links → IsSentTo k t links'
 sent_same k s t links links' same kept (inl none) =
     inl (ap (λ (u : StoredState). told_at u k) same ∙ none)
 sent_same {S = S} k s t links links' same kept (inr stops) =

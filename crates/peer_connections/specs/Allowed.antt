@@ -1,15 +1,18 @@
 -- Which moves belong to what is done for a peer, or by the station itself.
-use Rattle.std.specs.Prelude.{◌≡◌, ℕ, Bool, false, ◌&&◌, ◌||◌, ◌==◌, List, Option, Some, None}
-use Rattle.std.specs.Prelude.{is_none, slice_index, ⊤}
+use Rattle.std.specs.Prelude.{◌≡◌, ℕ, Bool, true, false, ◌&&◌, ◌||◌, ◌==◌, ◌⊎◌, List, Option, Some, None}
+use Rattle.std.specs.Prelude.{is_none, nat_lt, slice_index, ⊤}
 use Rattle.site_base.specs.declared.limits.TheConstants.{POINTS, TILLS}
 use Rattle.site_base.specs.Ranges.{is_between}
 use Rattle.device_map.specs.declared.ids.TheConstants.{DISPENSER_SUBNET, TILL_SUBNET}
-use Rattle.station.specs.Moves.{StationState}
+use Rattle.station.specs.declared.sizes.TheConstants.{FREE_PLACES}
+use Rattle.station.specs.Moves.{StationState, without_peer}
 use Rattle.station.specs.Peers.{peer_at}
+use Rattle.station.specs.Places.{is_place_at}
 use Rattle.station.specs.Reads.{end_at, node_at}
 use Rattle.station.specs.Runs.{Arrives, EndsRelease, Finishes, Forgets, Leaves, Loses, Move, Says}
 use Rattle.station.specs.Runs.{Takes}
 use Rattle.station.specs.Sessions.{Session}
+use Rattle.journal.specs.Stored.{StoredState, with_station}
 
 -- ---- who may leave
 
@@ -38,6 +41,11 @@ is_known (Some node) = is_till_node node || is_dispenser_node node
 -- a key's peer has a session that lasts, and has brought a message of a site's node
 abbrev pub is_served_at : StationState → ℕ → Bool
 is_served_at s k = is_none (end_at s k) && is_known (node_at s k)
+
+-- a key is a place of this door, or, without a door, of those who come over TCP
+abbrev pub is_place_of : Option ℕ → ℕ → Bool
+is_place_of None key = nat_lt key FREE_PLACES
+is_place_of (Some door) key = is_place_at door key
 
 -- ---- what is done
 
@@ -68,16 +76,45 @@ IsLate k (Finishes j) s = j ≡ k
 IsLate k (Leaves j) s = j ≡ k
 IsLate k m s = ⊥
 
--- a peer leaves that isn't served
-abbrev pub IsDismissal : Move → StationState → Type 0
-IsDismissal (Leaves j) s = is_served_at s j ≡ false
-IsDismissal m s = ⊥
+-- a peer of this door, or over TCP, leaves that isn't served
+abbrev pub IsDismissal : Option ℕ → Move → StationState → Type 0
+IsDismissal door (Leaves j) s = (is_place_of door j ≡ true) × (is_served_at s j ≡ false)
+IsDismissal door m s = ⊥
 
--- A peer comes at this door, or at none: it arrives there, and peers leave that aren't served.
+-- A peer comes at this door, or over TCP: it arrives there, and peers leave that aren't served, of
+-- that door or over TCP.
 abbrev pub IsWelcome : Option ℕ → Move → StationState → Type 0
 IsWelcome door (Arrives key at) s = at ≡ door
-IsWelcome door (Leaves j) s = is_served_at s j ≡ false
+IsWelcome door (Leaves j) s =
+    ((is_place_of door j ≡ true) ⊎ (is_place_of None j ≡ true)) × (is_served_at s j ≡ false)
 IsWelcome door m s = ⊥
+
+-- nothing is changed, or the peer of this key has left
+abbrev pub IsSameOrLeft : ℕ → StoredState → StoredState → Type 0
+IsSameOrLeft key s t = (t ≡ s) ⊎ (t ≡ with_station (without_peer key s.station) s)
+
+-- ---- what is done for all of them
+
+-- connections follow their sessions: peers take what they are owed, sessions end, and peers leave
+-- whose sessions have ended
+abbrev pub IsFollowing : Move → StationState → Type 0
+IsFollowing (Takes j n) s = ⊤
+IsFollowing (Finishes j) s = ⊤
+IsFollowing (Leaves j) s = lasts_at s j ≡ false
+IsFollowing m s = ⊥
+
+-- the day ends: peers take what they are owed, sessions end, and peers leave
+abbrev pub IsEnding : Move → StationState → Type 0
+IsEnding (Takes j n) s = ⊤
+IsEnding (Finishes j) s = ⊤
+IsEnding (Leaves j) s = ⊤
+IsEnding m s = ⊥
+
+-- time passes: nobody comes, and nobody is heard
+abbrev pub IsPassing : Move → StationState → Type 0
+IsPassing (Arrives j door) s = ⊥
+IsPassing (Says memory j octets) s = ⊥
+IsPassing m s = ⊤
 
 -- the station acts by itself, for which the rows in memory may be forgotten
 abbrev pub IsOwn : Move → StationState → Type 0

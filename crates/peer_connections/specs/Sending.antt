@@ -54,9 +54,9 @@ StopsAt None = ⊥
 StopsAt (Some link) = HasStopped link
 
 -- the peer of a key may be told nothing more, or its connection has stopped
-abbrev pub IsSent : {S : Type 0} → ℕ → StoredState → List (Option (Link S)) → Type 0
-IsSent key s links = (told_at s key ≡ []) ⊎ StopsAt (get_or links key None)
+abbrev pub IsSentTo : {S : Type 0} → ℕ → StoredState → List (Option (Link S)) → Type 0
+IsSentTo key s links = (told_at s key ≡ []) ⊎ StopsAt (get_or links key None)
 
 -- .. each peer of these keys
-abbrev pub AreSent : {S : Type 0} → List ℕ → StoredState → List (Option (Link S)) → Type 0
-AreSent due s links = (k : ℕ) → is_due due k ≡ true → IsSent k s links
+abbrev pub AreSentTo : {S : Type 0} → List ℕ → StoredState → List (Option (Link S)) → Type 0
+AreSentTo due s links = (k : ℕ) → is_due due k ≡ true → IsSentTo k s links

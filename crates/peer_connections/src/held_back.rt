@@ -19,6 +19,7 @@ impl<D: Disk> Connections<D> {
     pub(crate) fn note_hold(&mut self, until: Instant)
         ensures stored { self.new.stored ≡ self.old.stored }
         ensures links { self.new.links ≡ self.old.links }
+        ensures due { self.new.due ≡ self.old.due }
     {
         let is_first = match self.read_on_at {
             None => true,
@@ -33,7 +34,8 @@ impl<D: Disk> Connections<D> {
     /// more. In a round one is, and the next one in the next round: others have their turn between
     /// them.
     pub fn read_on(&mut self, registry: &Registry, now: Instant)
-        ensures { self.new.stored ≡ self.old.stored }
+        ensures stored { self.new.stored ≡ self.old.stored }
+        ensures due { self.new.due ≡ self.old.due }
     {
         if !self.is_read_on_due(now) {
             return;
@@ -61,7 +63,8 @@ impl<D: Disk> Connections<D> {
     /// The session of a peer is held back no more, if it was for long enough; else false.
     #[tactic(auto, using(crate::proofs::Pairing::paired))]
     fn end_hold(&mut self, registry: &Registry, key: usize, now: Instant) -> bool
-        ensures { self.new.stored ≡ self.old.stored }
+        ensures stored { self.new.stored ≡ self.old.stored }
+        ensures due { self.new.due ≡ self.old.due }
     {
         let Some(until) = self.held_until(key) else {
             return false;

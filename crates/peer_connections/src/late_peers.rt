@@ -1,16 +1,41 @@
 //! Peers that were waited for too long.
 
-ghost use Rattle.peer_connections.specs.Allowed.{IsLate};
+ghost use Rattle.std.specs.Prelude.{◌≡◌, OnOk, true};
+ghost use Rattle.journal.specs.Stored.{is_all_stored};
+ghost use Rattle.peer_connections.specs.Allowed.{IsLate, IsPassing};
 ghost use Rattle.peer_connections.specs.Links.{OthersStay};
 ghost use Rattle.peer_connections.specs.Reaches.{ReachesBy};
 
 use crate::connections::Connections;
 use crate::naming::PeerName;
 use crate::sizes::{CLOSING_SECONDS, FIRST_MESSAGE_SECONDS, TAKING_SECONDS};
-use journal::Disk;
+use journal::{Disk, DiskFault};
+use mio::Registry;
 use std::time::{Duration, Instant};
 
 impl<D: Disk> Connections<D> {
+    /// Sessions of which nothing came for so many seconds end, and so do those that are read from
+    /// no more, since their peers take nothing. Connections that don't close are closed, and so are
+    /// those that have brought no whole message.
+    #[tactic(auto, using(crate::proofs::Reaching::passed))]
+    pub fn sweep<E: Eprint>(
+        &mut self,
+        registry: &Registry,
+        rt: &E,
+        idle: Option<u64>,
+        now: Instant,
+    ) -> Result<(), DiskFault>
+        ensures moves { ReachesBy IsPassing self.old.stored self.new.stored }
+        ensures stored { OnOk result (is_all_stored self.new.stored ≡ true) }
+    {
+        self.may_wait = false;
+        for key in 0..self.links.len() {
+            self.end_if_late(rt, key, idle, now);
+        }
+        self.keep_up(now)?;
+        self.send_due(registry, rt, now)
+    }
+
     /// The session of a peer ends, or its connection is closed, if it was waited for too long.
     #[tactic(auto, using(crate::proofs::Reaching::left_late, crate::proofs::Linking::kept))]
     pub(crate) fn end_if_late<E: Eprint>(

@@ -16,6 +16,7 @@ impl<D: Disk> Connections<D> {
     pub(crate) fn note_dispenser(&mut self, key: usize)
         ensures stored { self.new.stored ≡ self.old.stored }
         ensures links { self.new.links ≡ self.old.links }
+        ensures due { self.new.due ≡ self.old.due }
     {
         if !self.upkeep.looks_for_lost() {
             return;

@@ -1,8 +1,10 @@
 //! The places of peers: who comes gets one, and where all are taken, one that waits without a whole
 //! message leaves.
 
-ghost use Rattle.std.specs.Prelude.{◌≡◌, IfOk, IfSome, None, OnErr, Some, false, is_some, true};
-ghost use Rattle.peer_connections.specs.Allowed.{IsDismissal, IsWelcome, is_served_at};
+ghost use Rattle.std.specs.Prelude.{◌≡◌, ◌<◌, ◌≤◌, IfOk, IfSome, None, OnErr, Some, false, ℕ};
+ghost use Rattle.std.specs.Prelude.{is_some, true};
+ghost use Rattle.peer_connections.specs.Allowed.{IsDismissal, IsSameOrLeft, IsWelcome, is_place_of};
+ghost use Rattle.peer_connections.specs.Allowed.{is_served_at};
 ghost use Rattle.peer_connections.specs.Links.{ArePaired, AwaitsLink, ComesTo, OthersStay};
 ghost use Rattle.peer_connections.specs.Reaches.{ReachesBy};
 
@@ -132,7 +134,7 @@ impl<D: Disk> Connections<D> {
     /// that has waited longest without a whole message. False where none waits so.
     #[tactic(auto, using(crate::proofs::Reaching::welcomed))]
     pub fn make_way(&mut self) -> bool
-        ensures { ReachesBy IsDismissal self.old.stored self.new.stored }
+        ensures { ReachesBy (IsDismissal None) self.old.stored self.new.stored }
     {
         self.dismiss_longest_waiting(None)
     }
@@ -141,7 +143,7 @@ impl<D: Disk> Connections<D> {
     /// of TCP. False where none waits so.
     #[tactic(auto, using(crate::proofs::Reaching::welcomed))]
     fn dismiss_longest_waiting(&mut self, door: Option<usize>) -> bool
-        ensures { ReachesBy IsDismissal self.old.stored self.new.stored }
+        ensures { ReachesBy (IsDismissal door) self.old.stored self.new.stored }
     {
         match self.find_longest_waiting(door) {
             Some(key) => {
@@ -154,12 +156,11 @@ impl<D: Disk> Connections<D> {
 
     /// The peer that has waited longest without a whole message, of those of this door, or of TCP.
     fn find_longest_waiting(&self, door: Option<usize>) -> Option<usize>
-        ensures { IfSome result (λ key. is_served_at self.now.stored.station key ≡ false) }
+        ensures place { IfSome result (λ key. is_place_of door key ≡ true) }
+        ensures unserved { IfSome result (λ key.
+            is_served_at self.now.stored.station key ≡ false) }
     {
-        let (first, last) = match door {
-            None => (0, FREE_PLACES),
-            Some(place) => door_keys(place),
-        };
+        let (first, last) = place_keys(door);
         let mut longest: Option<(usize, Waiting)> = None;
         for key in first..last {
             if let Some(waiting) = self.look_for_message(key) {
@@ -222,6 +223,7 @@ fn arrive_in<D: Disk>(
     ensures moves { ReachesBy (IsWelcome door) stored.old stored.new }
     ensures unserved { IfOk result (λ found. IfSome found (λ key.
         is_served_at stored.new.station key ≡ false)) }
+    ensures place { IfOk result (λ found. IfSome found (λ key. is_place_of door key ≡ true)) }
     ensures came { IfOk result (λ found.
         ComesTo found stored.old.station.peers stored.new.station.peers) }
     ensures err { OnErr result (stored.new.station ≡ stored.old.station) }
@@ -238,6 +240,7 @@ fn arrive_over_tcp<D: Disk>(stored: &mut StoredStation<D>) -> Result<Option<usiz
     ensures moves { ReachesBy (IsWelcome None) stored.old stored.new }
     ensures unserved { IfOk result (λ found. IfSome found (λ key.
         is_served_at stored.new.station key ≡ false)) }
+    ensures place { IfOk result (λ found. IfSome found (λ key. is_place_of None key ≡ true)) }
     ensures came { IfOk result (λ found.
         ComesTo found stored.old.station.peers stored.new.station.peers) }
     ensures err { OnErr result (stored.new.station ≡ stored.old.station) }
@@ -257,6 +260,8 @@ fn arrive_at<D: Disk>(
     ensures moves { ReachesBy (IsWelcome (Some place)) stored.old stored.new }
     ensures unserved { IfOk result (λ found. IfSome found (λ key.
         is_served_at stored.new.station key ≡ false)) }
+    ensures place { IfOk result (λ found. IfSome found (λ key.
+        is_place_of (Some place) key ≡ true)) }
     ensures came { IfOk result (λ found.
         ComesTo found stored.old.station.peers stored.new.station.peers) }
     ensures err { OnErr result (stored.new.station ≡ stored.old.station) }
@@ -269,7 +274,7 @@ fn arrive_at<D: Disk>(
 
 /// The peer that has come to this place has this connection. Where the system doesn't report it,
 /// the peer leaves: then false.
-#[tactic(auto, using(crate::proofs::Reaching::welcomed, crate::proofs::Pairing::linked))]
+#[tactic(auto, using(crate::proofs::Pairing::linked))]
 fn set_link<D: Disk>(
     stored: &mut StoredStation<D>,
     links: &mut Vec<Option<Link<PeerStream>>>,
@@ -277,9 +282,8 @@ fn set_link<D: Disk>(
     key: usize,
     link: Link<PeerStream>,
 ) -> bool
-    requires unserved { is_served_at stored.old.station key ≡ false }
     requires awaits { AwaitsLink key links.old.items stored.old.station.peers }
-    ensures moves { ReachesBy IsDismissal stored.old stored.new }
+    ensures left { IsSameOrLeft key stored.old stored.new }
     ensures others { OthersStay key links.old.items links.new.items }
     ensures paired { ArePaired links.new.items stored.new.station.peers }
 {
@@ -314,10 +318,17 @@ impl Waiting {
     }
 }
 
-/// The keys of a door, by its place among the doors: the first, and the first that isn't.
-fn door_keys(place: usize) -> (usize, usize) {
-    let first = place
-        .saturating_mul(NODE_SESSIONS)
-        .saturating_add(FREE_PLACES);
-    (first, first.saturating_add(NODE_SESSIONS))
+/// The keys of the places of this door, or over TCP: the first, and the first that isn't one.
+fn place_keys(door: Option<usize>) -> (usize, usize)
+    ensures { (k : ℕ) → result.0 ≤ k → k < result.1 → is_place_of door k ≡ true }
+{
+    match door {
+        None => (0, FREE_PLACES),
+        Some(place) => {
+            let first = place
+                .saturating_mul(NODE_SESSIONS)
+                .saturating_add(FREE_PLACES);
+            (first, first.saturating_add(NODE_SESSIONS))
+        }
+    }
 }

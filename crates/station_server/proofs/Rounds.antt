@@ -1,6 +1,7 @@
 -- What a round is made of.
+use Rattle.peer_connections.proofs.Dues.{now_due, stay_same, stay_then, stay_with}
 use Rattle.peer_connections.proofs.Reaching.{goes_same, reaches_any, reaches_kept, reaches_same}
-use Rattle.peer_connections.proofs.Reaching.{reaches_then, reaches_welcome}
+use Rattle.peer_connections.proofs.Reaching.{reaches_then, reaches_way, reaches_welcome}
 
 pub ruleset moved = (
   goes_same,
@@ -9,4 +10,13 @@ pub ruleset moved = (
   reaches_kept,
   reaches_any,
   reaches_welcome,
+  reaches_way,
+)
+
+-- whoever is due stays so while peers are heard
+pub ruleset heard = (
+  stay_same,
+  stay_then,
+  stay_with,
+  now_due,
 )

@@ -1,10 +1,13 @@
 //! The server: it waits until connections are ready, round after round.
 
-ghost use Rattle.std.specs.Prelude.{◌≡◌, None, OnOk, Some, true};
+ghost use Rattle.std.specs.Prelude.{◌≡◌, ◌<◌, None, OnOk, Some, true};
+ghost use Rattle.station.specs.declared.sizes.TheConstants.{PEERS};
 ghost use Rattle.station.specs.Reads.{HasNoPeer};
 ghost use Rattle.journal.specs.Stored.{is_all_stored};
 ghost use Rattle.peer_connections.specs.Allowed.{IsDismissal, IsHearing, IsWelcome};
+ghost use Rattle.peer_connections.specs.Due.{StayDue, is_due};
 ghost use Rattle.peer_connections.specs.Reaches.{Reaches, ReachesBy};
+ghost use Rattle.peer_connections.specs.Sending.{HasChange, OwedAreDue};
 
 use crate::doors::Doors;
 use crate::fault::ServerFault;
@@ -181,14 +184,15 @@ impl StationServer {
     }
 
     /// Waits until connections are ready, but no longer than this, and each of them has its turn.
-    #[tactic(auto, using(crate::proofs::Rounds::moved))]
+    #[tactic(auto, using(crate::proofs::Rounds::moved, crate::proofs::Rounds::heard))]
     fn hear_round<R: Clock + Eprint, D: Disk>(
         &mut self,
         rt: &R,
         connections: &mut Connections<D>,
         timeout: Option<Duration>,
     ) -> Result<(), ServerFault>
-        ensures { Reaches connections.old.stored connections.new.stored }
+        ensures moves { Reaches connections.old.stored connections.new.stored }
+        ensures due { StayDue connections.old.due connections.new.due }
     {
         match self.poll.poll(&mut self.events, timeout) {
             Ok(()) => {
@@ -206,13 +210,14 @@ impl StationServer {
     /// Where peers are about to be left that were waited for too long, first of all whoever is
     /// ready has its turn: the wait may have been interrupted, or more are ready than a round looks
     /// at.
-    #[tactic(auto, using(crate::proofs::Rounds::moved))]
+    #[tactic(auto, using(crate::proofs::Rounds::moved, crate::proofs::Rounds::heard))]
     fn hear_before_sweep<R: Clock + Eprint, D: Disk>(
         &mut self,
         rt: &R,
         connections: &mut Connections<D>,
     ) -> Result<(), ServerFault>
-        ensures { Reaches connections.old.stored connections.new.stored }
+        ensures moves { Reaches connections.old.stored connections.new.stored }
+        ensures due { StayDue connections.old.due connections.new.due }
     {
         if !self.is_sweep_due() {
             return Ok(());
@@ -280,9 +285,10 @@ impl StationServer {
     }
 
     /// Each connection that is ready has its turn. One of the page has it behind those.
-    #[tactic(auto, using(crate::proofs::Rounds::moved))]
+    #[tactic(auto, using(crate::proofs::Rounds::moved, crate::proofs::Rounds::heard))]
     fn take_turns<D: Disk>(&mut self, connections: &mut Connections<D>) -> Result<(), ServerFault>
-        ensures { Reaches connections.old.stored connections.new.stored }
+        ensures moves { Reaches connections.old.stored connections.new.stored }
+        ensures due { StayDue connections.old.due connections.new.due }
     {
         for event in &self.events {
             match event.token() {
@@ -396,7 +402,7 @@ impl StationServer {
         connections: &mut Connections<D>,
         place: usize,
     ) -> Caller<UnixStream>
-        ensures { ReachesBy IsDismissal connections.old.stored connections.new.stored }
+        ensures { ReachesBy (IsDismissal None) connections.old.stored connections.new.stored }
     {
         match self.doors.accept(place) {
             Caller::Failed(error) => {
@@ -413,7 +419,7 @@ impl StationServer {
     /// Accepts one connection that waits over TCP, as `accept_one_at` does.
     #[tactic(auto, using(crate::proofs::Rounds::moved))]
     fn accept_one<D: Disk>(&mut self, connections: &mut Connections<D>) -> Caller<TcpStream>
-        ensures { ReachesBy IsDismissal connections.old.stored connections.new.stored }
+        ensures { ReachesBy (IsDismissal None) connections.old.stored connections.new.stored }
     {
         match accept_at(&self.listener) {
             Caller::Failed(error) => {
@@ -502,14 +508,27 @@ impl StationServer {
         ensures moves { Reaches connections.old.stored connections.new.stored }
         ensures stored { OnOk result (is_all_stored connections.new.stored ≡ true) }
     {
-        connections.make_owed_due();
-        if self.is_sweep_due() {
-            connections.make_full_due();
-        }
+        self.note_due(connections);
         connections.send_due(self.poll.registry(), rt, self.rounds.waited())?;
         self.sweep_if_due(rt, connections, idle)?;
         connections.read_on(self.poll.registry(), self.rounds.waited());
         Ok(())
+    }
+
+    /// Where a dispenser is told of a row of this round, whoever is owed octets is due, but for
+    /// those whose connections take none for now; before a sweep those are, too.
+    #[tactic(auto, using(crate::proofs::Rounds::moved, crate::proofs::Rounds::heard))]
+    fn note_due<D: Disk>(&self, connections: &mut Connections<D>)
+        ensures stored { connections.new.stored ≡ connections.old.stored }
+        ensures due { StayDue connections.old.due connections.new.due }
+        ensures owed { HasChange connections.old.changes connections.old.stored.station.book
+            → OwedAreDue connections.new.stored.station connections.new.links.items
+                connections.new.due }
+    {
+        connections.make_owed_due();
+        if self.is_sweep_due() {
+            connections.make_full_due();
+        }
     }
 
     /// Sweeps, where it is time to.
@@ -584,15 +603,19 @@ fn list_sessions<D: Disk>(
     Ok(sessions)
 }
 
-/// A connection that is ready has its turn.
-#[tactic(auto, using(crate::proofs::Rounds::moved))]
+/// A connection that is ready has its turn, and is due then. Where the station's book can't be
+/// given room for what it sent, that ends the day.
+#[tactic(auto, using(crate::proofs::Rounds::moved, crate::proofs::Rounds::heard))]
 fn take_turn<D: Disk>(
     connections: &mut Connections<D>,
     event: &Event,
     key: usize,
     now: Instant,
 ) -> Result<(), DiskFault>
-    ensures { ReachesBy (IsHearing key) connections.old.stored connections.new.stored }
+    requires { key < PEERS }
+    ensures moves { ReachesBy (IsHearing key) connections.old.stored connections.new.stored }
+    ensures due { StayDue connections.old.due connections.new.due }
+    ensures now { OnOk result (is_due connections.new.due key ≡ true) }
 {
     if event.is_writable() {
         connections.unblock(key);

@@ -1,7 +1,7 @@
-use Rattle.peer_connections.proofs.Reaching.{reaches_any, reaches_finished, reaches_then}
+use Rattle.peer_connections.proofs.Reaching.{reaches_ended, reaches_then}
 use Rattle.peer_connections.proofs.connections.Connections.finish_all.Goals as goal
 
 pub loop-key-preserved : goal.loop-key-preserved
 loop-key-preserved g c =
     reaches_then _ _ _ _ c.loop-key.invariant
-    (reaches_any _ _ _ (reaches_finished _ _ _ c.finish.ensures))
+    (reaches_ended _ _ _ c.finish.ensures)

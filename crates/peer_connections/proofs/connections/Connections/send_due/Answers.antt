@@ -1,6 +1,6 @@
 use Rattle.std.proofs.Common.{ap, ◌∙◌, subst, sym, ◌≡◌, List, length, ℕ}
 use Rattle.station.specs.Moves.{StationState}
-use Rattle.peer_connections.specs.Sending.{AreSent}
+use Rattle.peer_connections.specs.Sending.{AreSentTo}
 use Rattle.peer_connections.proofs.Others.{on_ok, sent_by, sent_stored}
 use Rattle.peer_connections.proofs.Reaching.{reaches_kept, reaches_then}
 use Rattle.peer_connections.proofs.connections.Connections.send_due.Goals as goal
@@ -21,9 +21,9 @@ returns-clause-sent g c =
     ≡ length c.store.new.self.stored.station.book.rows =
     sym (ap (λ (s : StationState). length s.book.rows) c.store_and_end.ensures.station) ∙ few
     ∙ sym (ap (λ (s : StationState). length s.book.rows) c.store.ensures.station) in
-    let each : AreSent c.args.self.now.due c.send_each.new.self.stored
+    let each : AreSentTo c.args.self.now.due c.send_each.new.self.stored
     c.send_each.new.self.links.items =
-    subst (λ (due : List ℕ). AreSent due c.send_each.new.self.stored
+    subst (λ (due : List ℕ). AreSentTo due c.send_each.new.self.stored
     c.send_each.new.self.links.items) c.store.ensures.due (c.send_each.ensures.sent same) in
     sent_by _ c.store_and_end.new.self.stored _ _ (ap (λ x. x.items) c.store_and_end.ensures.links)
     (sent_stored c.args.self.now.due c.store.new.self.stored c.send_each.new.self.stored

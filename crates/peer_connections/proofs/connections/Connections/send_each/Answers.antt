@@ -1,5 +1,5 @@
 use Rattle.std.proofs.Common.{arith, take, List, ◌∙◌, subst, ℕ}
-use Rattle.peer_connections.specs.Sending.{AreSent}
+use Rattle.peer_connections.specs.Sending.{AreSentTo}
 use Rattle.peer_connections.proofs.Others.{all_sent}
 use Rattle.peer_connections.proofs.Reaching.{reaches_then}
 use Rattle.peer_connections.proofs.connections.Connections.send_each.Goals as goal
@@ -21,5 +21,5 @@ pub returns-clause-sent : goal.returns-clause-sent
 returns-clause-sent g c = λ few.
     all_sent c.args.self.now.due c.loop-at.at c.loop-at.self.stored _
     (omega (arith, c.loop-at-test.false, c.len-at-end.ensures))
-    (subst (λ (due : List ℕ). AreSent (take c.loop-at.at due) c.loop-at.self.stored
+    (subst (λ (due : List ℕ). AreSentTo (take c.loop-at.at due) c.loop-at.self.stored
     c.loop-at.self.links.items) c.loop-at.invariant.due (c.loop-at.invariant.sent few))

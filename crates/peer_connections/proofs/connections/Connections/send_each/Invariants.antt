@@ -1,14 +1,15 @@
 use Rattle.std.proofs.Common.{◌≡◌, ◌≤◌, length, take}
-use Rattle.peer_connections.specs.Reaches.{Reaches}
-use Rattle.peer_connections.specs.Sending.{AreSent}
+use Rattle.peer_connections.specs.Allowed.{IsFollowing}
+use Rattle.peer_connections.specs.Reaches.{ReachesBy}
+use Rattle.peer_connections.specs.Sending.{AreSentTo}
 use Rattle.peer_connections.proofs.connections.Connections.send_each.Given as goal
 
 abbrev pub invariant-loop-at : goal.invariant-loop-at
 invariant-loop-at g l = record {
-  moves : Reaches l.fn.self.stored l.self.stored;
+  moves : ReachesBy IsFollowing l.fn.self.stored l.self.stored;
   journal : l.self.stored.journal ≡ l.fn.self.stored.journal;
   rows : length l.fn.self.stored.station.book.rows ≤ length l.self.stored.station.book.rows;
   due : l.self.due ≡ l.fn.self.due;
   sent : length l.self.stored.station.book.rows ≡ length l.fn.self.stored.station.book.rows
-      → AreSent (take l.at l.self.due) l.self.stored l.self.links.items;
+      → AreSentTo (take l.at l.self.due) l.self.stored l.self.links.items;
 }

@@ -1,5 +1,6 @@
-use Rattle.peer_connections.specs.Reaches.{Reaches}
+use Rattle.peer_connections.specs.Allowed.{IsEnding}
+use Rattle.peer_connections.specs.Reaches.{ReachesBy}
 use Rattle.peer_connections.proofs.connections.Connections.send_last_to_all.Given as goal
 
 abbrev pub invariant-loop-key : goal.invariant-loop-key
-invariant-loop-key g l = Reaches l.fn.self.stored l.self.stored
+invariant-loop-key g l = ReachesBy IsEnding l.fn.self.stored l.self.stored

@@ -1,4 +1,4 @@
-use Rattle.peer_connections.proofs.Reaching.{reaches_then, reaches_welcome}
+use Rattle.peer_connections.proofs.Reaching.{reaches_then, reaches_way, reaches_welcome}
 use Rattle.peer_connections.proofs.connections.Connections.settle.Goals as goal
 
 -- all places were taken: a peer has left
@@ -18,10 +18,10 @@ returns-else-dismiss_longest_waiting g c =
 pub returns-then-make_way : goal.returns-then-make_way
 returns-then-make_way g c =
     reaches_then _ _ _ _ c.arrive.ensures
-    (reaches_then _ _ _ _ (reaches_welcome _ _ _ c.make_way.ensures)
+    (reaches_then _ _ _ _ (reaches_way _ _ _ c.make_way.ensures)
     c.arrive-then-make_way.ensures)
 
 -- .. or none could
 pub returns-else-make_way : goal.returns-else-make_way
 returns-else-make_way g c =
-    reaches_then _ _ _ _ c.arrive.ensures (reaches_welcome _ _ _ c.make_way.ensures)
+    reaches_then _ _ _ _ c.arrive.ensures (reaches_way _ _ _ c.make_way.ensures)

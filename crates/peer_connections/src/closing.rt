@@ -1,0 +1,122 @@
+//! Connections that close, since their sessions have ended.
+
+ghost use Rattle.std.specs.Prelude.{◌≡◌, false};
+ghost use Rattle.station.specs.Moves.{without_peer};
+ghost use Rattle.journal.specs.Stored.{with_station};
+ghost use Rattle.peer_connections.specs.Allowed.{IsClosing, lasts_at};
+ghost use Rattle.peer_connections.specs.Links.{OthersStay};
+ghost use Rattle.peer_connections.specs.Reaches.{ReachesBy};
+ghost use Rattle.peer_connections.specs.Sending.{IsSentTo};
+
+use crate::connections::Connections;
+use crate::link::Channel;
+use crate::naming::EndedSession;
+use journal::Disk;
+use station::PeerEnd;
+use std::time::Instant;
+
+impl<D: Disk> Connections<D> {
+    /// The session of a peer has ended: its connection is one that closes. That is told once, where
+    /// it ended otherwise than with its peer's octets.
+    #[tactic(auto, using(crate::proofs::Sent::sent_to))]
+    pub(crate) fn begin_to_close<E: Eprint>(&mut self, rt: &E, key: usize, now: Instant)
+        requires { lasts_at self.old.stored.station key ≡ false }
+        ensures stored { self.new.stored ≡ self.old.stored }
+        ensures others { OthersStay key self.old.links.items self.new.links.items }
+        ensures sent { IsSentTo key self.old.stored self.old.links.items
+            → IsSentTo key self.new.stored self.new.links.items }
+        ensures due { self.new.due ≡ self.old.due }
+    {
+        if !self.note_closing(key, now) {
+            return;
+        }
+        match self.stored.end(key) {
+            None | Some(PeerEnd::Well) => {}
+            Some(end) => {
+                let node = self.stored.node(key);
+                let ended = EndedSession { node, end };
+                let _ = eprintln!(rt; "{ended}");
+            }
+        }
+    }
+
+    /// The session of a peer has ended: its connection is one that closes, and nobody hears what it
+    /// still brings. False where it was one.
+    #[tactic(auto, using(crate::proofs::Sent::sent_to))]
+    pub(crate) fn note_closing(&mut self, key: usize, now: Instant) -> bool
+        requires { lasts_at self.old.stored.station key ≡ false }
+        ensures stored { self.new.stored ≡ self.old.stored }
+        ensures others { OthersStay key self.old.links.items self.new.links.items }
+        ensures sent { IsSentTo key self.old.stored self.old.links.items
+            → IsSentTo key self.new.stored self.new.links.items }
+        ensures due { self.new.due ≡ self.old.due }
+    {
+        if let Some(slot) = self.links.get_mut(key) {
+            if let Some(link) = slot {
+                if link.closing_since.is_none() {
+                    link.closing_since = Some(now);
+                    self.may_wait = true;
+                    return true;
+                }
+            }
+        }
+        false
+    }
+
+    /// A peer whose session ended so has what it is owed: it is told that nothing more will come,
+    /// and once it sends no more its connection is closed. That of one that doesn't take what it is
+    /// owed is closed at once.
+    #[tactic(auto, using(crate::proofs::Reaching::closed, crate::proofs::Sent::sent_to))]
+    pub(crate) fn end_connection(&mut self, key: usize, end: PeerEnd)
+        requires { lasts_at self.old.stored.station key ≡ false }
+        ensures moves { ReachesBy (IsClosing key) self.old.stored self.new.stored }
+        ensures others { OthersStay key self.old.links.items self.new.links.items }
+        ensures sent { IsSentTo key self.old.stored self.old.links.items
+            → IsSentTo key self.new.stored self.new.links.items }
+        ensures journal { self.new.stored.journal ≡ self.old.stored.journal }
+        ensures due { self.new.due ≡ self.old.due }
+    {
+        if end == PeerEnd::Behind {
+            self.remove(key);
+            return;
+        }
+        if self.stored.is_owed(key) {
+            return;
+        }
+        if self.shut(key) {
+            self.remove(key);
+        }
+    }
+
+    /// A peer is told that nothing more will come. Can it only take, or nothing at all?
+    #[tactic(auto, using(crate::proofs::Sent::sent_to))]
+    fn shut(&mut self, key: usize) -> bool
+        ensures stored { self.new.stored ≡ self.old.stored }
+        ensures others { OthersStay key self.old.links.items self.new.links.items }
+        ensures sent { IsSentTo key self.old.stored self.old.links.items
+            → IsSentTo key self.new.stored self.new.links.items }
+        ensures due { self.new.due ≡ self.old.due }
+    {
+        if let Some(slot) = self.links.get_mut(key) {
+            if let Some(link) = slot {
+                link.shut();
+                return link.channel != Channel::Open;
+            }
+        }
+        false
+    }
+
+    /// The connection of a peer is closed, and the peer leaves.
+    #[tactic(auto, using(crate::proofs::Pairing::paired))]
+    pub(crate) fn remove(&mut self, key: usize)
+        ensures left { self.new.stored
+            ≡ with_station (without_peer key self.old.stored.station) self.old.stored }
+        ensures others { OthersStay key self.old.links.items self.new.links.items }
+        ensures due { self.new.due ≡ self.old.due }
+    {
+        self.stored.leave(key);
+        if let Some(slot) = self.links.get_mut(key) {
+            *slot = None;
+        }
+    }
+}

@@ -1,0 +1,95 @@
+//! What peers send: their connections are read, and the station hears it.
+
+ghost use Rattle.std.specs.Prelude.{◌≡◌};
+ghost use Rattle.peer_connections.specs.Allowed.{IsHearing};
+ghost use Rattle.peer_connections.specs.Links.{OthersStay};
+ghost use Rattle.peer_connections.specs.Reaches.{ReachesBy};
+
+use crate::connections::Connections;
+use journal::{Disk, DiskFault};
+use std::time::Instant;
+
+impl<D: Disk> Connections<D> {
+    /// A peer has sent something, or hung up. With `to_wait` it is read until its connection waits,
+    /// as `Link::hear` says. Where the station's book can't be given room for what it sent, it
+    /// isn't read from.
+    #[tactic(auto, using(crate::proofs::Reaching::moved, crate::proofs::Linking::kept))]
+    pub fn hear(&mut self, key: usize, to_wait: bool, now: Instant) -> Result<(), DiskFault>
+        ensures moves { ReachesBy (IsHearing key) self.old.stored self.new.stored }
+        ensures others { OthersStay key self.old.links.items self.new.links.items }
+        ensures due { self.new.due ≡ self.old.due }
+    {
+        if self.hear_link(key, to_wait, now)? {
+            if let Some(until) = self.held_until(key) {
+                self.note_hold(until);
+            }
+            if !self.stored.is_read(key) {
+                self.may_wait = true;
+            }
+            self.note_dispenser(key);
+        }
+        Ok(())
+    }
+
+    /// A peer's connection is read, and the station hears it, unless it is held back. Where its
+    /// session has ended nobody hears it. Says whether the station may have heard it.
+    #[tactic(auto, using(crate::proofs::Streaming::heard, crate::proofs::Pairing::paired))]
+    fn hear_link(&mut self, key: usize, to_wait: bool, now: Instant) -> Result<bool, DiskFault>
+        ensures moves { ReachesBy (IsHearing key) self.old.stored self.new.stored }
+        ensures others { OthersStay key self.old.links.items self.new.links.items }
+        ensures due { self.new.due ≡ self.old.due }
+    {
+        if let Some(slot) = self.links.get_mut(key) {
+            if let Some(link) = slot {
+                if self.stored.end(key).is_some() {
+                    link.ignore(&self.stored, key, &mut self.piece);
+                    return Ok(false);
+                }
+                if link.held_until.is_some() {
+                    return Ok(false);
+                }
+                let changes = &mut self.changes;
+                link.hear(
+                    &mut self.stored,
+                    changes,
+                    key,
+                    &mut self.piece,
+                    to_wait,
+                    now,
+                )?;
+                return Ok(true);
+            }
+        }
+        Ok(false)
+    }
+
+    /// Until when a session is held back, if it is.
+    pub(crate) fn held_until(&self, key: usize) -> Option<Instant> {
+        match self.links.get(key) {
+            Some(Some(link)) => link.held_until,
+            _ => None,
+        }
+    }
+
+    /// Did reading from a peer stop before it was known to have no more?
+    pub fn is_unread(&self, key: usize) -> bool {
+        match self.links.get(key) {
+            Some(Some(link)) => link.is_unread,
+            _ => false,
+        }
+    }
+
+    /// A peer's connection takes octets again.
+    #[tactic(auto, using(crate::proofs::Pairing::paired))]
+    pub fn unblock(&mut self, key: usize)
+        ensures stored { self.new.stored ≡ self.old.stored }
+        ensures others { OthersStay key self.old.links.items self.new.links.items }
+        ensures due { self.new.due ≡ self.old.due }
+    {
+        if let Some(slot) = self.links.get_mut(key) {
+            if let Some(link) = slot {
+                link.is_full = false;
+            }
+        }
+    }
+}

@@ -1,0 +1,160 @@
+//! The end of a round: its rows are stored, and whoever is due is sent what it is owed.
+
+ghost use Rattle.std.specs.Prelude.{◌≡◌, ◌<◌, ◌≤◌, ◌+◌, [], length, OnOk, take, true};
+ghost use Rattle.journal.specs.Stored.{is_all_stored};
+ghost use Rattle.peer_connections.specs.Allowed.{IsClosing, IsFollowing, IsSending};
+ghost use Rattle.peer_connections.specs.Links.{OthersStay};
+ghost use Rattle.peer_connections.specs.Reaches.{ReachesBy};
+ghost use Rattle.peer_connections.specs.Sending.{AreSentTo, IsSentTo};
+
+use crate::connections::Connections;
+use crate::link::Channel;
+use journal::{Disk, DiskFault};
+use mio::Registry;
+use std::time::Instant;
+
+impl<D: Disk> Connections<D> {
+    /// Each row is stored; then whoever is due is sent what it is owed, and a session that has
+    /// ended is closed. Where the rows can't be stored nothing is sent. At the end the history's
+    /// chapter ends, if it is over. Nobody is passed over: but for what rows that were added
+    /// meanwhile tell them, those that were due are owed nothing more, or their connections have
+    /// stopped.
+    #[tactic(auto, using(crate::proofs::Reaching::followed))]
+    pub fn send_due<E: Eprint>(
+        &mut self,
+        registry: &Registry,
+        rt: &E,
+        now: Instant,
+    ) -> Result<(), DiskFault>
+        ensures moves { ReachesBy IsFollowing self.old.stored self.new.stored }
+        ensures stored { OnOk result (is_all_stored self.new.stored ≡ true) }
+        ensures due { OnOk result (self.new.due ≡ []) }
+        ensures sent { OnOk result (length self.new.stored.station.book.rows
+            ≡ length self.old.stored.station.book.rows
+            → AreSentTo self.old.due self.new.stored self.new.links.items) }
+    {
+        self.store()?;
+        self.send_each(registry, rt, now);
+        // The sign-offs of sessions whose connections failed while they were sent to.
+        self.store_and_end(rt)
+    }
+
+    /// Each row is stored. Whoever is due is sent what it may be told, and a session that has ended
+    /// is closed.
+    #[tactic(auto, using(crate::proofs::Reaching::followed))]
+    fn send_each<E: Eprint>(&mut self, registry: &Registry, rt: &E, now: Instant)
+        ensures moves { ReachesBy IsFollowing self.old.stored self.new.stored }
+        ensures journal { self.new.stored.journal ≡ self.old.stored.journal }
+        ensures rows { length self.old.stored.station.book.rows
+            ≤ length self.new.stored.station.book.rows }
+        ensures due { self.new.due ≡ [] }
+        ensures sent { length self.new.stored.station.book.rows
+            ≡ length self.old.stored.station.book.rows
+            → AreSentTo self.old.due self.new.stored self.new.links.items }
+    {
+        for at in 0..self.due.len() {
+            self.send_at(registry, rt, at, now);
+        }
+        self.due.clear();
+    }
+
+    /// The one that is due at this place is sent what it may be told, as those before it were.
+    #[tactic(auto, using(crate::proofs::Reaching::followed))]
+    fn send_at<E: Eprint>(&mut self, registry: &Registry, rt: &E, at: usize, now: Instant)
+        requires { at < length self.old.due }
+        ensures moves { ReachesBy IsFollowing self.old.stored self.new.stored }
+        ensures journal { self.new.stored.journal ≡ self.old.stored.journal }
+        ensures rows { length self.old.stored.station.book.rows
+            ≤ length self.new.stored.station.book.rows }
+        ensures due { self.new.due ≡ self.old.due }
+        ensures sent { length self.new.stored.station.book.rows
+            ≡ length self.old.stored.station.book.rows
+            → AreSentTo (take at self.old.due) self.old.stored self.old.links.items
+            → AreSentTo (take (at + 1) self.new.due) self.new.stored self.new.links.items }
+    {
+        match self.due.get(at) {
+            Some(key) => self.send_owed(registry, rt, key, now),
+            None => {}
+        }
+    }
+
+    /// A peer is sent what it is owed, and its connection follows its session.
+    #[tactic(auto, using(crate::proofs::Reaching::moved, crate::proofs::Sent::sent_to))]
+    fn send_owed<E: Eprint>(&mut self, registry: &Registry, rt: &E, key: usize, now: Instant)
+        ensures moves { ReachesBy (IsClosing key) self.old.stored self.new.stored }
+        ensures others { OthersStay key self.old.links.items self.new.links.items }
+        ensures sent { IsSentTo key self.new.stored self.new.links.items }
+        ensures journal { self.new.stored.journal ≡ self.old.stored.journal }
+        ensures due { self.new.due ≡ self.old.due }
+    {
+        match self.send_link(key, now) {
+            None => {}
+            Some(Channel::Failed) => {
+                self.stored.finish(key);
+                self.begin_to_close(rt, key, now);
+                self.remove(key);
+            }
+            Some(_) => {
+                self.follow_session(rt, key, now);
+                self.report_again(registry, key);
+            }
+        }
+    }
+
+    /// A peer is sent what it may be told. What it can still do then, if it has a connection.
+    #[tactic(auto, using(crate::proofs::Streaming::sent, crate::proofs::Sent::sent_to))]
+    fn send_link(&mut self, key: usize, now: Instant) -> Option<Channel>
+        ensures moves { ReachesBy (IsSending key) self.old.stored self.new.stored }
+        ensures others { OthersStay key self.old.links.items self.new.links.items }
+        ensures sent { IsSentTo key self.new.stored self.new.links.items }
+        ensures journal { self.new.stored.journal ≡ self.old.stored.journal }
+        ensures due { self.new.due ≡ self.old.due }
+    {
+        if let Some(slot) = self.links.get_mut(key) {
+            if let Some(link) = slot {
+                link.send(&mut self.stored, key, now);
+                return Some(link.channel);
+            }
+        }
+        None
+    }
+
+    /// A peer's connection closes, if its session has ended.
+    #[tactic(auto, using(crate::proofs::Reaching::closed, crate::proofs::Sent::sent_to))]
+    fn follow_session<E: Eprint>(&mut self, rt: &E, key: usize, now: Instant)
+        ensures moves { ReachesBy (IsClosing key) self.old.stored self.new.stored }
+        ensures others { OthersStay key self.old.links.items self.new.links.items }
+        ensures sent { IsSentTo key self.old.stored self.old.links.items
+            → IsSentTo key self.new.stored self.new.links.items }
+        ensures journal { self.new.stored.journal ≡ self.old.stored.journal }
+        ensures due { self.new.due ≡ self.old.due }
+    {
+        if let Some(end) = self.stored.end(key) {
+            self.begin_to_close(rt, key, now);
+            self.end_connection(key, end);
+        }
+    }
+
+    /// Where a peer's turn was over before all was read or sent that could be, its connection is
+    /// reported once more.
+    #[tactic(auto, using(crate::proofs::Sent::sent_to))]
+    fn report_again(&mut self, registry: &Registry, key: usize)
+        ensures stored { self.new.stored ≡ self.old.stored }
+        ensures others { OthersStay key self.old.links.items self.new.links.items }
+        ensures sent { IsSentTo key self.old.stored self.old.links.items
+            → IsSentTo key self.new.stored self.new.links.items }
+        ensures due { self.new.due ≡ self.old.due }
+    {
+        let is_read = self.stored.is_read(key);
+        let is_owed = self.stored.is_owed(key);
+        if let Some(slot) = self.links.get_mut(key) {
+            if let Some(link) = slot {
+                let is_heard = is_read && link.held_until.is_none();
+                let is_left = link.is_unread && (is_heard || link.closing_since.is_some());
+                if is_left || is_owed && (link.is_unsent || !link.is_full) {
+                    link.stream.watch_again(registry, key);
+                }
+            }
+        }
+    }
+}
