@@ -17,7 +17,7 @@ use Rattle.station.specs.Sessions.{Session}
 use Rattle.peer_connections.specs.declared.change_watch.ChangeWatch.{ChangeWatch}
 use Rattle.peer_connections.specs.declared.link.Link.{Link}
 use Rattle.peer_connections.specs.Links.{ArePaired, has_link}
-use Rattle.peer_connections.specs.Sending.{HasChange, OwedAreDue, is_full_at}
+use Rattle.peer_connections.specs.Sending.{HasChange, HasSeen, OwedAreDue, is_full_at}
 use Rattle.station.specs.declared.sizes.TheConstants.{PEERS}
 use Rattle.peer_connections.specs.Due.{AreMarked, StayDue, count_marks, is_due}
 use Rattle.peer_connections.specs.Due.{with_due}
@@ -284,14 +284,15 @@ noted_up_to from place b had has stays before this at row since below kept there
         stays (before at row since (grind (arith, nat_tests)) kept there changing)
 
 pub all_noted : (watch : ChangeWatch) (place : ℕ) (b : Book) (has : Bool)
-    → (watch.has_changes ≡ true → has ≡ true)
+    → HasSeen watch.rows_seen b → (watch.has_changes ≡ true → has ≡ true)
     → ((at : ℕ) (row : Row) → watch.rows_seen ≤ at → at < place → b.forgotten ≤ at
     → slice_get b.rows at ≡ Some row → is_changing row ≡ true → has ≡ true)
     → length b.rows ≤ place → HasChange watch b → has ≡ true
-all_noted watch place b has stays before all (inl had) = stays had
-all_noted watch place b has stays before all (inr new) =
+all_noted watch place b has seen stays before all (inl had) = stays had
+all_noted watch place b has seen stays before all (inr new) =
     let within = there_within b.rows new.at new.row new.there in
-    before new.at new.row new.since (omega (arith, all, within)) new.kept new.there new.changing
+    before new.at new.row new.since (omega (arith, all, within))
+    (omega (arith, seen.0, new.since)) new.there new.changing
 
 pub ruleset marked = (
   room,

@@ -1,8 +1,10 @@
 pub mod Dues
+pub mod Known
 pub mod Leaving
 pub mod Linking
 pub mod Others
 pub mod Pairing
 pub mod Reaching
+pub mod Seeing
 pub mod Sent
 pub mod Streaming

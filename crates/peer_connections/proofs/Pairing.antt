@@ -33,6 +33,8 @@ use Rattle.peer_connections.specs.Links.{has_peer}
 use Rattle.peer_connections.specs.Reaches.{AreAllowed, ReachesBy}
 use Rattle.peer_connections.specs.Streams.{HearsStream, SendsStream}
 use Rattle.peer_connections.proofs.Linking.{others_same, others_set}
+use Rattle.peer_connections.proofs.Seeing.{came_book, came_book_at, seen_book, seen_ended, seen_left}
+use Rattle.peer_connections.proofs.Seeing.{seen_linked, seen_room, seen_same, seen_sent}
 
 -- ---- the same are there
 
@@ -299,7 +301,7 @@ pub paired_set : {L : Type 0} (key : ℕ) (links : List (Option L)) (old link : 
 paired_set key links old link peers is paired k = set_link key k links old link is ∙ paired k
 
 -- a connection is closed, and its peer leaves
-gone_link : {L : Type 0} (key : ℕ) (links : List (Option L))
+pub gone_link : {L : Type 0} (key : ℕ) (links : List (Option L))
     → get_or (set links key None) key None ≡ None
 gone_link key [] = refl
 gone_link zero (y ∷ links) = refl
@@ -447,12 +449,21 @@ pub ruleset paired = (
   paired_left,
   paired_left_beyond,
   awaits,
+  seen_same,
+  seen_room,
+  seen_sent,
+  seen_ended,
+  seen_left,
+  seen_book,
+  seen_linked,
 )
 
 -- a peer comes
 pub ruleset arrived = (
   comes,
   comes_at,
+  came_book,
+  came_book_at,
 )
 
 -- .. and has a connection

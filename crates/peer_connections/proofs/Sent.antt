@@ -18,6 +18,7 @@ use Rattle.peer_connections.specs.Sending.{HasStopped, IsSentTo, StopsAt}
 use Rattle.peer_connections.proofs.Leaving.{left_gone}
 use Rattle.peer_connections.proofs.Linking.{others_same, others_set}
 use Rattle.peer_connections.proofs.Pairing.{paired_ended, paired_set}
+use Rattle.peer_connections.proofs.Seeing.{seen_ended, seen_sent}
 
 -- whoever isn't owed octets may be told none
 pub told_none : (k : ℕ) (s : StoredState) → owed_at s.station k ≡ [] → told_at s k ≡ []
@@ -54,18 +55,18 @@ sent_left k s t links left =
     (ap (λ (u : StoredState). owed_at u.station k) left ∙ ap owed_to (left_gone k s.station)))
 
 -- a connection that has stopped
-there : {L : Type 0} (k : ℕ) (links : List (Option L)) (old link : L)
+pub set_there : {L : Type 0} (k : ℕ) (links : List (Option L)) (old link : L)
     → get_or links k None ≡ Some old → get_or (set links k (Some link)) k None ≡ Some link
-there k [] old link is = absurd (let never : None ≡ Some old = is in cc)
-there zero (y ∷ links) old link is = refl
-there (suc k) (y ∷ links) old link is = there k links old link is
+set_there k [] old link is = absurd (let never : None ≡ Some old = is in cc)
+set_there zero (y ∷ links) old link is = refl
+set_there (suc k) (y ∷ links) old link is = set_there k links old link is
 
 pub sent_link : {S : Type 0} (k : ℕ) (s : StoredState) (links : List (Option (Link S)))
     (old link : Link S) → get_or links k None ≡ Some old
     → (told_at s k ≡ []) ⊎ HasStopped link → IsSentTo k s (set links k (Some link))
 sent_link k s links old link is (inl none) = inl none
 sent_link {S = S} k s links old link is (inr stopped) =
-    inr (subst (λ (l : Option (Link S)). StopsAt l) (sym (there k links old link is)) stopped)
+    inr (subst (λ (l : Option (Link S)). StopsAt l) (sym (set_there k links old link is)) stopped)
 
 -- .. has still, where something else of it is changed
 pub stays_sent : {S : Type 0} (k : ℕ) (s t : StoredState) (links : List (Option (Link S)))
@@ -75,7 +76,7 @@ pub stays_sent : {S : Type 0} (k : ℕ) (s t : StoredState) (links : List (Optio
 stays_sent k s t links old link is same full unsent channel (inl none) =
     inl (ap (λ (u : StoredState). told_at u k) same ∙ none)
 stays_sent {S = S} k s t links old link is same full unsent channel (inr stops) =
-    inr (subst (λ (l : Option (Link S)). StopsAt l) (sym (there k links old link is))
+    inr (subst (λ (l : Option (Link S)). StopsAt l) (sym (set_there k links old link is))
     (still (subst (λ (l : Option (Link S)). StopsAt l) is stops)))
   where
     still : HasStopped old → HasStopped link
@@ -96,6 +97,8 @@ pub ruleset sent_to = (
   others_set,
   paired_set,
   paired_ended,
+  seen_ended,
+  seen_sent,
   sent_nobody,
   sent_left,
   sent_link,

@@ -1,6 +1,6 @@
 -- Who is to be sent what it is owed.
 use Rattle.std.specs.Prelude.{◌≡◌, ◌≢◌, ◌≤◌, ◌⊎◌, ℕ, Bool, true, false, List, [], Option, Some}
-use Rattle.std.specs.Prelude.{None, get_or, slice_get}
+use Rattle.std.specs.Prelude.{None, get_or, length, slice_get}
 use Rattle.site_base.specs.declared.row.Row.{Row}
 use Rattle.site_book.specs.Book.{Book}
 use Rattle.site_book.specs.Changes.{is_changing}
@@ -12,12 +12,15 @@ use Rattle.peer_connections.specs.declared.link.Channel.TheVariants.{Failed}
 use Rattle.peer_connections.specs.declared.link.Link.{Link}
 use Rattle.peer_connections.specs.Due.{is_due}
 
--- a row at this place, or behind it, that is in memory, and that a dispenser is told of
+-- so many rows were looked at: each one that is forgotten, and none that isn't there
+abbrev pub HasSeen : ℕ → Book → Type 0
+HasSeen seen b = (b.forgotten ≤ seen) × (seen ≤ length b.rows)
+
+-- a row at this place, or behind it, that a dispenser is told of
 pub record HasChangeFrom (place : ℕ) (b : Book) : Type 0 where
   pub at : ℕ
   pub row : Row
   pub since : place ≤ at
-  pub kept : b.forgotten ≤ at
   pub there : slice_get b.rows at ≡ Some row
   pub changing : is_changing row ≡ true
 

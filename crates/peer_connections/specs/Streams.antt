@@ -1,10 +1,12 @@
 -- What a peer says is what is read of its connection, and what is sent there is what it may be
 -- told.
-use Rattle.std.specs.Prelude.{◌≡◌, ℕ, List, [], ◌∷◌, ◌++◌, Option}
+use Rattle.std.specs.Prelude.{◌≡◌, ℕ, List, [], ◌∷◌, ◌++◌, Option, Some, None, get_or, true}
 use Rattle.std.specs.Io.KnownBytes.{Appends, Consumes}
 use Rattle.station.specs.Runs.{Move, Says}
 use Rattle.journal.specs.Stored.{StoredState, told_at}
-use Rattle.peer_connections.specs.Allowed.{IsHearing, IsSending}
+use Rattle.peer_connections.specs.declared.link.Link.{Link}
+use Rattle.peer_connections.specs.Allowed.{IsClosing, IsHearing, IsSending}
+use Rattle.peer_connections.specs.Links.{has_link}
 use Rattle.peer_connections.specs.Reaches.{ReachesBy}
 
 -- the octets that come with a move
@@ -31,3 +33,31 @@ pub record SendsStream (key : ℕ) (got got' : Option (List ℕ)) (earlier later
   pub sent : List ℕ
   pub written : Appends got got' sent
   pub rest : told_at earlier key ≡ sent ++ told_at later key
+
+-- ---- by a key's own connection
+
+-- what is known of a connection: what it still brings, say, or what it got
+abbrev pub known_of : {S : Type 0} → (S → Option (List ℕ)) → Option (Link S) → Option (List ℕ)
+known_of known None = None
+known_of known (Some link) = known link.stream
+
+-- .. of that of a key
+abbrev pub known_at : {S : Type 0} → (S → Option (List ℕ)) → List (Option (Link S)) → ℕ
+    → Option (List ℕ)
+known_at known links k = known_of known (get_or links k None)
+
+-- a key's connection, if it is still there, got no more
+abbrev pub GetsNoMore : {S : Type 0} → (S → Option (List ℕ)) → ℕ → List (Option (Link S))
+    → List (Option (Link S)) → Type 0
+GetsNoMore got key links links' =
+    has_link links' key ≡ true → known_at got links' key ≡ known_at got links key
+
+-- The peer of this key is sent to, by its own connection. Then that follows its session, and gets
+-- no more.
+pub record SendsAndFollows {S : Type 0} (got : S → Option (List ℕ)) (key : ℕ)
+    (links links' : List (Option (Link S))) (earlier later : StoredState) : Type 0 where
+  pub sent_to : StoredState
+  pub between : List (Option (Link S))
+  pub sends : SendsStream key (known_at got links key) (known_at got between key) earlier sent_to
+  pub follows : ReachesBy (IsClosing key) sent_to later
+  pub no_more : GetsNoMore got key between links'

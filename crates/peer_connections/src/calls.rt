@@ -6,6 +6,7 @@ ghost use Rattle.station.specs.declared.sizes.TheConstants.{HEARD_OCTETS};
 ghost use Rattle.station.specs.Reads.{is_read_at};
 ghost use Rattle.journal.specs.Stored.{JournalGoesOn};
 ghost use Rattle.peer_connections.specs.Calls.{HearsCall, HearsWithRoom, SendsCall};
+ghost use Rattle.peer_connections.specs.Sending.{HasSeen};
 
 use crate::change_watch::ChangeWatch;
 use connection_calls::Call;
@@ -48,6 +49,7 @@ pub fn read_once<R: Read, D: Disk>(
 
 /// Makes room in the book for the rows of one read, and reads once. The rows so far are looked at
 /// before they are forgotten. Where no room can be made, nothing is read.
+#[tactic(auto, using(crate::proofs::Seeing::seen))]
 pub(crate) fn read_with_room<R: Read, D: Disk>(
     reader: &mut R,
     stored: &mut StoredStation<D>,
@@ -58,11 +60,13 @@ pub(crate) fn read_with_room<R: Read, D: Disk>(
     requires some { 0 < length piece.old }
     requires few { length piece.old ≤ HEARD_OCTETS }
     requires read { is_read_at stored.old.station key ≡ true }
+    requires seen { HasSeen changes.old.rows_seen stored.old.station.book }
     ensures hears { IfOk result (λ call. HearsWithRoom call key (R.remaining reader.old)
         (R.remaining reader.new) stored.old.station stored.new.station) }
     ensures err { OnErr result (stored.new.station ≡ stored.old.station) }
     ensures unread { OnErr result (reader.new ≡ reader.old) }
     ensures journal { JournalGoesOn stored.old.journal stored.new.journal }
+    ensures seen { HasSeen changes.new.rows_seen stored.new.station.book }
 {
     changes.look(stored.book());
     stored.make_room()?;

@@ -1,8 +1,8 @@
 //! Rows that dispensers are told of.
 
-ghost use Rattle.std.specs.Prelude.{◌≡◌, ◌≤◌, ◌||◌, IfSome, false, slice_get, true};
+ghost use Rattle.std.specs.Prelude.{◌≡◌, ◌≤◌, ◌||◌, IfSome, false, length, slice_get, true};
 ghost use Rattle.site_book.specs.Changes.{is_changing};
-ghost use Rattle.peer_connections.specs.Sending.{HasChange};
+ghost use Rattle.peer_connections.specs.Sending.{HasChange, HasSeen};
 
 use site_base::{Event, FpNo, PointSet, Row};
 use site_book::{SiteBook, is_changing};
@@ -23,7 +23,9 @@ pub struct ChangeWatch {
 
 impl ChangeWatch {
     /// Watches the rows behind those that the book has; for releases too, if that is wanted.
-    pub fn new(book: &SiteBook, watches_releases: bool) -> ChangeWatch {
+    pub fn new(book: &SiteBook, watches_releases: bool) -> ChangeWatch
+        ensures { HasSeen result.rows_seen book.now }
+    {
         ChangeWatch {
             rows_seen: book.len(),
             has_changes: false,
@@ -32,9 +34,12 @@ impl ChangeWatch {
         }
     }
 
-    /// Looks at the rows that are new. One that a dispenser is told of is noted.
+    /// Looks at the rows that are new, none of which is forgotten. One that a dispenser is told of
+    /// is noted.
     pub fn look(&mut self, book: &SiteBook)
-        ensures { HasChange self.old book.now → self.new.has_changes ≡ true }
+        requires { HasSeen self.old.rows_seen book.now }
+        ensures noted { HasChange self.old book.now → self.new.has_changes ≡ true }
+        ensures all { self.new.rows_seen ≡ length book.now.rows }
     {
         let first = self.rows_seen;
         self.rows_seen = book.len();
@@ -49,6 +54,7 @@ impl ChangeWatch {
     /// Looks at the row of this place, if it is in memory.
     fn look_at(&mut self, book: &SiteBook, place: u64)
         ensures had { self.old.has_changes ≡ true → self.new.has_changes ≡ true }
+        ensures seen { self.new.rows_seen ≡ self.old.rows_seen }
         ensures noted { book.now.forgotten ≤ place → IfSome (slice_get book.now.rows place)
             (λ row. is_changing row ≡ true → self.new.has_changes ≡ true) }
     {
@@ -59,7 +65,8 @@ impl ChangeWatch {
 
     /// Notes a new row.
     fn note(&mut self, row: &Row)
-        ensures { self.new.has_changes ≡ (self.old.has_changes || is_changing row.now) }
+        ensures changes { self.new.has_changes ≡ (self.old.has_changes || is_changing row.now) }
+        ensures seen { self.new.rows_seen ≡ self.old.rows_seen }
     {
         if is_changing(row) {
             self.has_changes = true;
@@ -72,6 +79,7 @@ impl ChangeWatch {
     /// The points that were released since this was asked last.
     pub fn take_released(&mut self) -> PointSet
         ensures changes { self.new.has_changes ≡ self.old.has_changes }
+        ensures seen { self.new.rows_seen ≡ self.old.rows_seen }
     {
         let released = self.released;
         self.released = PointSet::new();
@@ -82,6 +90,7 @@ impl ChangeWatch {
     pub fn take(&mut self) -> bool
         ensures had { result ≡ self.old.has_changes }
         ensures none { self.new.has_changes ≡ false }
+        ensures seen { self.new.rows_seen ≡ self.old.rows_seen }
     {
         let had_changes = self.has_changes;
         self.has_changes = false;

@@ -7,24 +7,27 @@ ghost use Rattle.peer_connections.specs.Allowed.{IsClosing, lasts_at};
 ghost use Rattle.peer_connections.specs.Links.{OthersStay};
 ghost use Rattle.peer_connections.specs.Reaches.{ReachesBy};
 ghost use Rattle.peer_connections.specs.Sending.{IsSentTo};
+ghost use Rattle.peer_connections.specs.Streams.{GetsNoMore};
 
 use crate::connections::Connections;
 use crate::link::Channel;
 use crate::naming::EndedSession;
+use crate::peer_stream::PeerSocket;
 use journal::Disk;
 use station::PeerEnd;
 use std::time::Instant;
 
-impl<D: Disk> Connections<D> {
+impl<D: Disk, S: PeerSocket> Connections<D, S> {
     /// The session of a peer has ended: its connection is one that closes. That is told once, where
     /// it ended otherwise than with its peer's octets.
-    #[tactic(auto, using(crate::proofs::Sent::sent_to))]
+    #[tactic(auto, using(crate::proofs::Sent::sent_to, crate::proofs::Known::known))]
     pub(crate) fn begin_to_close<E: Eprint>(&mut self, rt: &E, key: usize, now: Instant)
         requires { lasts_at self.old.stored.station key ≡ false }
         ensures stored { self.new.stored ≡ self.old.stored }
         ensures others { OthersStay key self.old.links.items self.new.links.items }
         ensures sent { IsSentTo key self.old.stored self.old.links.items
             → IsSentTo key self.new.stored self.new.links.items }
+        ensures got { GetsNoMore S.contents key self.old.links.items self.new.links.items }
         ensures due { self.new.due ≡ self.old.due }
     {
         if !self.note_closing(key, now) {
@@ -42,13 +45,14 @@ impl<D: Disk> Connections<D> {
 
     /// The session of a peer has ended: its connection is one that closes, and nobody hears what it
     /// still brings. False where it was one.
-    #[tactic(auto, using(crate::proofs::Sent::sent_to))]
+    #[tactic(auto, using(crate::proofs::Sent::sent_to, crate::proofs::Known::known))]
     pub(crate) fn note_closing(&mut self, key: usize, now: Instant) -> bool
         requires { lasts_at self.old.stored.station key ≡ false }
         ensures stored { self.new.stored ≡ self.old.stored }
         ensures others { OthersStay key self.old.links.items self.new.links.items }
         ensures sent { IsSentTo key self.old.stored self.old.links.items
             → IsSentTo key self.new.stored self.new.links.items }
+        ensures got { GetsNoMore S.contents key self.old.links.items self.new.links.items }
         ensures due { self.new.due ≡ self.old.due }
     {
         if let Some(slot) = self.links.get_mut(key) {
@@ -66,7 +70,7 @@ impl<D: Disk> Connections<D> {
     /// A peer whose session ended so has what it is owed: it is told that nothing more will come,
     /// and once it sends no more its connection is closed. That of one that doesn't take what it is
     /// owed is closed at once.
-    #[tactic(auto, using(crate::proofs::Reaching::closed, crate::proofs::Sent::sent_to))]
+    #[tactic(auto, using(crate::proofs::Reaching::closed, crate::proofs::Sent::sent_to, crate::proofs::Known::known))]
     pub(crate) fn end_connection(&mut self, key: usize, end: PeerEnd)
         requires { lasts_at self.old.stored.station key ≡ false }
         ensures moves { ReachesBy (IsClosing key) self.old.stored self.new.stored }
@@ -74,6 +78,7 @@ impl<D: Disk> Connections<D> {
         ensures sent { IsSentTo key self.old.stored self.old.links.items
             → IsSentTo key self.new.stored self.new.links.items }
         ensures journal { self.new.stored.journal ≡ self.old.stored.journal }
+        ensures got { GetsNoMore S.contents key self.old.links.items self.new.links.items }
         ensures due { self.new.due ≡ self.old.due }
     {
         if end == PeerEnd::Behind {
@@ -89,12 +94,13 @@ impl<D: Disk> Connections<D> {
     }
 
     /// A peer is told that nothing more will come. Can it only take, or nothing at all?
-    #[tactic(auto, using(crate::proofs::Sent::sent_to))]
+    #[tactic(auto, using(crate::proofs::Sent::sent_to, crate::proofs::Known::known))]
     fn shut(&mut self, key: usize) -> bool
         ensures stored { self.new.stored ≡ self.old.stored }
         ensures others { OthersStay key self.old.links.items self.new.links.items }
         ensures sent { IsSentTo key self.old.stored self.old.links.items
             → IsSentTo key self.new.stored self.new.links.items }
+        ensures got { GetsNoMore S.contents key self.old.links.items self.new.links.items }
         ensures due { self.new.due ≡ self.old.due }
     {
         if let Some(slot) = self.links.get_mut(key) {
@@ -107,11 +113,12 @@ impl<D: Disk> Connections<D> {
     }
 
     /// The connection of a peer is closed, and the peer leaves.
-    #[tactic(auto, using(crate::proofs::Pairing::paired))]
+    #[tactic(auto, using(crate::proofs::Pairing::paired, crate::proofs::Known::known))]
     pub(crate) fn remove(&mut self, key: usize)
         ensures left { self.new.stored
             ≡ with_station (without_peer key self.old.stored.station) self.old.stored }
         ensures others { OthersStay key self.old.links.items self.new.links.items }
+        ensures got { GetsNoMore S.contents key self.old.links.items self.new.links.items }
         ensures due { self.new.due ≡ self.old.due }
     {
         self.stored.leave(key);

@@ -6,11 +6,12 @@ ghost use Rattle.station.specs.declared.sizes.TheConstants.{HEARD_OCTETS};
 ghost use Rattle.station.specs.Runs.{opening_station};
 ghost use Rattle.journal.specs.Stored.{JournalGoesOn, is_all_stored, since_of};
 ghost use Rattle.peer_connections.specs.Links.{ArePaired, has_link};
+ghost use Rattle.peer_connections.specs.Sending.{HasSeen};
 
 use crate::change_watch::ChangeWatch;
 use crate::due_list::DueList;
 use crate::link::Link;
-use crate::peer_stream::PeerStream;
+use crate::peer_stream::PeerSocket;
 use crate::shift_warning::warn_of_last_shifts;
 use crate::upkeep::{Patience, Upkeep};
 use journal::{ChapterEnd, Disk, DiskFault, StoredStation};
@@ -21,12 +22,12 @@ use station::{HEARD_OCTETS, PEERS};
 use std::alloc::Global;
 use std::time::Instant;
 
-/// The connections by their peers' keys, and the station with its journal. Each connection is one
-/// of a peer that is there, and each peer that is there has one.
+/// The connections by their peers' keys, over sockets of this type, and the station with its
+/// journal. Each connection is one of a peer that is there, and each peer that is there has one.
 #[derive(Drop)]
-pub struct Connections<D: Disk> {
+pub struct Connections<D: Disk, S: PeerSocket> {
     pub(crate) stored: StoredStation<D>,
-    pub(crate) links: Vec<Option<Link<PeerStream>>>,
+    pub(crate) links: Vec<Option<Link<S>>>,
     pub(crate) piece: Vec<u8>,
     /// Those that are sent what they are owed at the end of this round.
     pub(crate) due: DueList,
@@ -53,9 +54,10 @@ pub struct Connections<D: Disk> {
     has_told_clock: bool,
     ghost size: { length piece.items ≡ HEARD_OCTETS },
     ghost paired: { ArePaired links.items stored.station.peers },
+    ghost seen: { HasSeen changes.rows_seen stored.station.book },
 }
 
-impl<D: Disk> Connections<D> {
+impl<D: Disk, S: PeerSocket> Connections<D, S> {
     /// No connections yet to this station, which has no peers. A session of it makes so many rows a
     /// second at most; with 0 as many as it likes.
     #[tactic(auto, using(crate::proofs::Pairing::paired_open))]
@@ -64,7 +66,7 @@ impl<D: Disk> Connections<D> {
         stored: StoredStation<D>,
         rows_a_second: u64,
         patience: Patience,
-    ) -> Result<Connections<D>, NoMemory>
+    ) -> Result<Connections<D, S>, NoMemory>
         requires alone { stored.station
             ≡ opening_station stored.station.gates stored.station.book }
         ensures { IfOk result (λ c. c.stored ≡ stored) }

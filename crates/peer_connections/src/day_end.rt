@@ -6,13 +6,15 @@ ghost use Rattle.journal.specs.Stored.{is_all_stored};
 ghost use Rattle.peer_connections.specs.Allowed.{IsEnding, IsSending};
 ghost use Rattle.peer_connections.specs.Links.{OthersStay};
 ghost use Rattle.peer_connections.specs.Reaches.{ReachesBy};
+ghost use Rattle.peer_connections.specs.Streams.{SendsStream, known_at};
 
 use crate::connections::Connections;
+use crate::peer_stream::PeerSocket;
 use journal::{Disk, DiskFault};
 use station::PEERS;
 use std::time::Instant;
 
-impl<D: Disk> Connections<D> {
+impl<D: Disk, S: PeerSocket> Connections<D, S> {
     /// The day ends: each session ends, and what it is owed is sent as far as its connection takes
     /// it, where each row is stored. Then each connection is closed: nobody is left. The history's
     /// chapter ends, if it is over, and its last row is sealed.
@@ -68,9 +70,11 @@ impl<D: Disk> Connections<D> {
     }
 
     /// A peer is sent what it is owed, and told that nothing more will come.
-    #[tactic(auto, using(crate::proofs::Streaming::sent, crate::proofs::Pairing::paired))]
+    #[tactic(auto, using(crate::proofs::Streaming::sent, crate::proofs::Pairing::paired, crate::proofs::Known::known))]
     fn send_last(&mut self, key: usize, now: Instant)
         ensures moves { ReachesBy (IsSending key) self.old.stored self.new.stored }
+        ensures stream { SendsStream key (known_at S.contents self.old.links.items key)
+            (known_at S.contents self.new.links.items key) self.old.stored self.new.stored }
         ensures others { OthersStay key self.old.links.items self.new.links.items }
     {
         if let Some(slot) = self.links.get_mut(key) {

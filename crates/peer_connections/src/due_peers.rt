@@ -8,10 +8,11 @@ ghost use Rattle.peer_connections.specs.Links.{has_link};
 ghost use Rattle.peer_connections.specs.Sending.{FullAreDue, HasChange, OwedAreDue, is_full_at};
 
 use crate::connections::Connections;
+use crate::peer_stream::PeerSocket;
 use journal::Disk;
 use station::PEERS;
 
-impl<D: Disk> Connections<D> {
+impl<D: Disk, S: PeerSocket> Connections<D, S> {
     /// A peer is sent what it is owed at the end of this round.
     pub fn make_due(&mut self, key: usize)
         ensures stored { self.new.stored ≡ self.old.stored }

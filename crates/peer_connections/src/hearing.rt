@@ -1,21 +1,26 @@
 //! What peers send: their connections are read, and the station hears it.
 
-ghost use Rattle.std.specs.Prelude.{◌≡◌};
-ghost use Rattle.peer_connections.specs.Allowed.{IsHearing};
+ghost use Rattle.std.specs.Prelude.{◌≡◌, true};
+ghost use Rattle.peer_connections.specs.Allowed.{IsHearing, lasts_at};
 ghost use Rattle.peer_connections.specs.Links.{OthersStay};
 ghost use Rattle.peer_connections.specs.Reaches.{ReachesBy};
+ghost use Rattle.peer_connections.specs.Streams.{HearsStream, known_at};
 
 use crate::connections::Connections;
+use crate::peer_stream::PeerSocket;
 use journal::{Disk, DiskFault};
 use std::time::Instant;
 
-impl<D: Disk> Connections<D> {
+impl<D: Disk, S: PeerSocket> Connections<D, S> {
     /// A peer has sent something, or hung up. With `to_wait` it is read until its connection waits,
     /// as `Link::hear` says. Where the station's book can't be given room for what it sent, it
     /// isn't read from.
     #[tactic(auto, using(crate::proofs::Reaching::moved, crate::proofs::Linking::kept))]
     pub fn hear(&mut self, key: usize, to_wait: bool, now: Instant) -> Result<(), DiskFault>
         ensures moves { ReachesBy (IsHearing key) self.old.stored self.new.stored }
+        ensures stream { lasts_at self.old.stored.station key ≡ true
+            → HearsStream key (known_at S.remaining self.old.links.items key)
+                (known_at S.remaining self.new.links.items key) self.old.stored self.new.stored }
         ensures others { OthersStay key self.old.links.items self.new.links.items }
         ensures due { self.new.due ≡ self.old.due }
     {
@@ -33,9 +38,12 @@ impl<D: Disk> Connections<D> {
 
     /// A peer's connection is read, and the station hears it, unless it is held back. Where its
     /// session has ended nobody hears it. Says whether the station may have heard it.
-    #[tactic(auto, using(crate::proofs::Streaming::heard, crate::proofs::Pairing::paired))]
+    #[tactic(auto, using(crate::proofs::Streaming::heard, crate::proofs::Pairing::paired, crate::proofs::Known::known))]
     fn hear_link(&mut self, key: usize, to_wait: bool, now: Instant) -> Result<bool, DiskFault>
         ensures moves { ReachesBy (IsHearing key) self.old.stored self.new.stored }
+        ensures stream { lasts_at self.old.stored.station key ≡ true
+            → HearsStream key (known_at S.remaining self.old.links.items key)
+                (known_at S.remaining self.new.links.items key) self.old.stored self.new.stored }
         ensures others { OthersStay key self.old.links.items self.new.links.items }
         ensures due { self.new.due ≡ self.old.due }
     {

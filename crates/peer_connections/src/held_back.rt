@@ -3,12 +3,13 @@
 ghost use Rattle.std.specs.Prelude.{◌≡◌};
 
 use crate::connections::Connections;
+use crate::peer_stream::PeerSocket;
 use journal::Disk;
 use mio::Registry;
 use station::PEERS;
 use std::time::{Duration, Instant};
 
-impl<D: Disk> Connections<D> {
+impl<D: Disk, S: PeerSocket> Connections<D, S> {
     /// How long it is until sessions that are held back are read on, if some are.
     pub fn hold_left(&self, now: Instant) -> Option<Duration> {
         let at = self.read_on_at?;

@@ -8,12 +8,13 @@ ghost use Rattle.peer_connections.specs.Reaches.{ReachesBy};
 
 use crate::connections::Connections;
 use crate::naming::PeerName;
+use crate::peer_stream::PeerSocket;
 use crate::sizes::{CLOSING_SECONDS, FIRST_MESSAGE_SECONDS, TAKING_SECONDS};
 use journal::{Disk, DiskFault};
 use mio::Registry;
 use std::time::{Duration, Instant};
 
-impl<D: Disk> Connections<D> {
+impl<D: Disk, S: PeerSocket> Connections<D, S> {
     /// Sessions of which nothing came for so many seconds end, and so do those that are read from
     /// no more, since their peers take nothing. Connections that don't close are closed, and so are
     /// those that have brought no whole message.

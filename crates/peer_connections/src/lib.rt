@@ -29,5 +29,6 @@ mod sizes;
 mod upkeep;
 
 pub use connections::Connections;
+pub use peer_stream::{PeerSocket, PeerStream};
 pub use sessions::Session;
 pub use upkeep::Patience;

@@ -4,14 +4,14 @@ ghost use Rattle.std.specs.Prelude.{◌≡◌, ◌⊎◌, [], false, length};
 ghost use Rattle.station.specs.declared.sizes.TheConstants.{HEARD_OCTETS};
 ghost use Rattle.peer_connections.specs.Allowed.{lasts_at};
 ghost use Rattle.journal.specs.Stored.{told_at};
-ghost use Rattle.peer_connections.specs.Sending.{HasStopped};
+ghost use Rattle.peer_connections.specs.Sending.{HasSeen, HasStopped};
 ghost use Rattle.peer_connections.specs.Streams.{HearsStream, SendsStream};
 
 use crate::allowance::Allowance;
 use crate::calls::{read_ignored, read_with_room, write_once};
 use crate::change_watch::ChangeWatch;
 use crate::held_back::after;
-use crate::peer_stream::PeerStream;
+use crate::peer_stream::PeerSocket;
 use crate::sizes::{FIRST_HOLD_MILLISECONDS, HOLD_MILLISECONDS};
 use connection_calls::{CALLS_A_TURN, Call};
 use journal::{Disk, DiskFault, StoredStation};
@@ -123,9 +123,11 @@ impl<S: Read> Link<S> {
         to_wait: bool,
         now: Instant,
     ) -> Result<(), DiskFault>
-        requires { length piece.old ≡ HEARD_OCTETS }
-        ensures { HearsStream key (S.remaining self.old.stream) (S.remaining self.new.stream)
-            stored.old stored.new }
+        requires size { length piece.old ≡ HEARD_OCTETS }
+        requires seen { HasSeen changes.old.rows_seen stored.old.station.book }
+        ensures stream { HearsStream key (S.remaining self.old.stream)
+            (S.remaining self.new.stream) stored.old stored.new }
+        ensures seen { HasSeen changes.new.rows_seen stored.new.station.book }
     {
         self.is_unread = true;
         for _ in 0..CALLS_A_TURN {
@@ -231,9 +233,10 @@ impl<S: Write> Link<S> {
     }
 }
 
-impl Link<PeerStream> {
+impl<S: PeerSocket> Link<S> {
     /// Tells the peer, once, that nothing more will come.
     pub(crate) fn shut(&mut self)
+        ensures stream { self.new.stream ≡ self.old.stream }
         ensures full { self.new.is_full ≡ self.old.is_full }
         ensures unsent { self.new.is_unsent ≡ self.old.is_unsent }
         ensures channel { self.new.channel ≡ self.old.channel }

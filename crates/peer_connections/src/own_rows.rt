@@ -6,12 +6,13 @@ ghost use Rattle.peer_connections.specs.Reaches.{ReachesBy};
 
 use crate::connections::Connections;
 use crate::nodes::point_of;
+use crate::peer_stream::PeerSocket;
 use device_map::dispenser;
 use journal::{Disk, DiskFault};
 use site_base::{FpNo, POINTS, PointState};
 use std::time::Instant;
 
-impl<D: Disk> Connections<D> {
+impl<D: Disk, S: PeerSocket> Connections<D, S> {
     /// If a peer that was heard is a dispenser, it is there.
     pub(crate) fn note_dispenser(&mut self, key: usize)
         ensures stored { self.new.stored ≡ self.old.stored }

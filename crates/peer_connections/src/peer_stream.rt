@@ -1,44 +1,66 @@
 //! What a peer's octets pass through: a connection over TCP, or one of a door.
 
+ghost use Rattle.std.specs.Prelude.{◌≡◌};
+
 use connection_calls::both_ways;
 use mio::net::{TcpStream, UnixStream};
 use mio::{Interest, Registry, Token};
 use std::io::{self, Read, Write};
 use std::net::Shutdown;
 
+/// A peer's connection: octets both ways, of which the system says when there are some, or when it
+/// takes some. What is known of the octets that it still brings, and of those that it was given,
+/// changes by reads and writes alone.
+pub trait PeerSocket: Read + Write + Drop {
+    /// Small pieces are sent at once.
+    fn send_at_once(&self);
+
+    /// It is reported under this key when it is ready.
+    fn watch(&mut self, registry: &Registry, key: usize) -> io::Result<()>
+        ensures left { Self.remaining self.new ≡ Self.remaining self.old }
+        ensures got { Self.contents self.new ≡ Self.contents self.old };
+
+    /// It is reported once more, if it is ready.
+    fn watch_again(&mut self, registry: &Registry, key: usize)
+        ensures left { Self.remaining self.new ≡ Self.remaining self.old }
+        ensures got { Self.contents self.new ≡ Self.contents self.old };
+
+    /// Tells the peer that nothing more will come.
+    fn shut(&self);
+}
+
 /// A connection over TCP, or one of a door, over a Unix socket.
 #[derive(Drop)]
-pub(crate) enum PeerStream {
+pub enum PeerStream {
+    /// Over TCP.
     Tcp(TcpStream),
+    /// Of a door.
     Unix(UnixStream),
 }
 
-impl PeerStream {
-    /// Small pieces are sent at once. Those of a Unix socket are anyway.
-    pub(crate) fn send_at_once(&self) {
+impl PeerSocket for PeerStream {
+    /// Small pieces of a Unix socket are sent at once anyway.
+    fn send_at_once(&self) {
         if let PeerStream::Tcp(stream) = self {
             let _ = stream.set_nodelay(true);
         }
     }
 
-    /// It is reported under this key when it is ready.
-    pub(crate) fn watch(&mut self, registry: &Registry, key: usize) -> io::Result<()> {
+    fn watch(&mut self, registry: &Registry, key: usize) -> io::Result<()> {
         match self {
             PeerStream::Tcp(stream) => registry.register(stream, Token(key), peer_interest()),
             PeerStream::Unix(stream) => registry.register(stream, Token(key), peer_interest()),
         }
     }
 
-    /// It is reported once more, if it is ready.
-    pub(crate) fn watch_again(&mut self, registry: &Registry, key: usize) {
+    fn watch_again(&mut self, registry: &Registry, key: usize) {
         let _ = match self {
             PeerStream::Tcp(stream) => registry.reregister(stream, Token(key), peer_interest()),
             PeerStream::Unix(stream) => registry.reregister(stream, Token(key), peer_interest()),
         };
     }
 
-    /// Tells the peer that nothing more will come.
-    pub(crate) fn shut(&self) {
+    fn shut(&self) {
         let _ = match self {
             PeerStream::Tcp(stream) => stream.shutdown(Shutdown::Write),
             PeerStream::Unix(stream) => stream.shutdown(Shutdown::Write),

@@ -11,15 +11,14 @@ ghost use Rattle.peer_connections.specs.Reaches.{ReachesBy};
 use crate::connections::Connections;
 use crate::link::Link;
 use crate::nodes::is_of_a_site;
-use crate::peer_stream::PeerStream;
+use crate::peer_stream::PeerSocket;
 use journal::{Disk, StoredStation};
 use mio::Registry;
-use mio::net::{TcpStream, UnixStream};
 use site_base::NoMemory;
 use station::{FREE_PLACES, NODE_SESSIONS};
 use std::time::Instant;
 
-impl<D: Disk> Connections<D> {
+impl<D: Disk, S: PeerSocket> Connections<D, S> {
     /// A peer has come over TCP. Where it gets no place, or memory is wanting, its connection is
     /// closed.
     #[tactic(auto, using(crate::proofs::Reaching::welcomed))]
@@ -27,12 +26,12 @@ impl<D: Disk> Connections<D> {
         &mut self,
         registry: &Registry,
         rt: &E,
-        stream: TcpStream,
+        stream: S,
         now: Instant,
     )
         ensures { ReachesBy (IsWelcome None) self.old.stored self.new.stored }
     {
-        self.settle_or_say(registry, rt, None, PeerStream::Tcp(stream), now);
+        self.settle_or_say(registry, rt, None, stream, now);
     }
 
     /// A peer has come through the door of this place among the doors, as `welcome` says.
@@ -42,12 +41,12 @@ impl<D: Disk> Connections<D> {
         registry: &Registry,
         rt: &E,
         door: usize,
-        stream: UnixStream,
+        stream: S,
         now: Instant,
     )
         ensures { ReachesBy (IsWelcome (Some door)) self.old.stored self.new.stored }
     {
-        self.settle_or_say(registry, rt, Some(door), PeerStream::Unix(stream), now);
+        self.settle_or_say(registry, rt, Some(door), stream, now);
     }
 
     /// A peer that has come at this door, or over TCP, gets a place. That there is none is said.
@@ -57,7 +56,7 @@ impl<D: Disk> Connections<D> {
         registry: &Registry,
         rt: &E,
         door: Option<usize>,
-        stream: PeerStream,
+        stream: S,
         now: Instant,
     )
         ensures { ReachesBy (IsWelcome door) self.old.stored self.new.stored }
@@ -82,9 +81,9 @@ impl<D: Disk> Connections<D> {
         &mut self,
         registry: &Registry,
         door: Option<usize>,
-        stream: PeerStream,
+        stream: S,
         now: Instant,
-    ) -> Arrival
+    ) -> Arrival<S>
         ensures { ReachesBy (IsWelcome door) self.old.stored self.new.stored }
     {
         match self.arrive(registry, door, stream, now) {
@@ -112,9 +111,9 @@ impl<D: Disk> Connections<D> {
         &mut self,
         registry: &Registry,
         door: Option<usize>,
-        stream: PeerStream,
+        stream: S,
         now: Instant,
-    ) -> Arrival
+    ) -> Arrival<S>
         ensures { ReachesBy (IsWelcome door) self.old.stored self.new.stored }
     {
         match arrive_in(&mut self.stored, door) {
@@ -204,13 +203,13 @@ impl<D: Disk> Connections<D> {
 
 /// What became of a peer that has come.
 #[derive(Drop)]
-enum Arrival {
+enum Arrival<S> {
     /// It has a place; or it has left it, since the system doesn't report its connection.
     Done,
     /// It has none, since all are taken: its connection.
-    NoPlace(PeerStream),
+    NoPlace(S),
     /// It has none, since memory is wanting: its connection.
-    NoMemory(PeerStream),
+    NoMemory(S),
 }
 
 /// A peer arrives in the station at this door, or over TCP. The key of its place, if it gets one:
@@ -226,6 +225,7 @@ fn arrive_in<D: Disk>(
     ensures place { IfOk result (λ found. IfSome found (λ key. is_place_of door key ≡ true)) }
     ensures came { IfOk result (λ found.
         ComesTo found stored.old.station.peers stored.new.station.peers) }
+    ensures book { stored.new.station.book ≡ stored.old.station.book }
     ensures err { OnErr result (stored.new.station ≡ stored.old.station) }
 {
     match door {
@@ -243,6 +243,7 @@ fn arrive_over_tcp<D: Disk>(stored: &mut StoredStation<D>) -> Result<Option<usiz
     ensures place { IfOk result (λ found. IfSome found (λ key. is_place_of None key ≡ true)) }
     ensures came { IfOk result (λ found.
         ComesTo found stored.old.station.peers stored.new.station.peers) }
+    ensures book { stored.new.station.book ≡ stored.old.station.book }
     ensures err { OnErr result (stored.new.station ≡ stored.old.station) }
 {
     match stored.arrive() {
@@ -264,6 +265,7 @@ fn arrive_at<D: Disk>(
         is_place_of (Some place) key ≡ true)) }
     ensures came { IfOk result (λ found.
         ComesTo found stored.old.station.peers stored.new.station.peers) }
+    ensures book { stored.new.station.book ≡ stored.old.station.book }
     ensures err { OnErr result (stored.new.station ≡ stored.old.station) }
 {
     match stored.arrive_at(place) {
@@ -275,12 +277,12 @@ fn arrive_at<D: Disk>(
 /// The peer that has come to this place has this connection. Where the system doesn't report it,
 /// the peer leaves: then false.
 #[tactic(auto, using(crate::proofs::Pairing::linked))]
-fn set_link<D: Disk>(
+fn set_link<D: Disk, S: PeerSocket>(
     stored: &mut StoredStation<D>,
-    links: &mut Vec<Option<Link<PeerStream>>>,
+    links: &mut Vec<Option<Link<S>>>,
     registry: &Registry,
     key: usize,
-    link: Link<PeerStream>,
+    link: Link<S>,
 ) -> bool
     requires awaits { AwaitsLink key links.old.items stored.old.station.peers }
     ensures left { IsSameOrLeft key stored.old stored.new }

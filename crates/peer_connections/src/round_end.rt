@@ -6,14 +6,17 @@ ghost use Rattle.peer_connections.specs.Allowed.{IsClosing, IsFollowing, IsSendi
 ghost use Rattle.peer_connections.specs.Links.{OthersStay};
 ghost use Rattle.peer_connections.specs.Reaches.{ReachesBy};
 ghost use Rattle.peer_connections.specs.Sending.{AreSentTo, IsSentTo};
+ghost use Rattle.peer_connections.specs.Streams.{GetsNoMore, SendsAndFollows, SendsStream};
+ghost use Rattle.peer_connections.specs.Streams.{known_at};
 
 use crate::connections::Connections;
 use crate::link::Channel;
+use crate::peer_stream::PeerSocket;
 use journal::{Disk, DiskFault};
 use mio::Registry;
 use std::time::Instant;
 
-impl<D: Disk> Connections<D> {
+impl<D: Disk, S: PeerSocket> Connections<D, S> {
     /// Each row is stored; then whoever is due is sent what it is owed, and a session that has
     /// ended is closed. Where the rows can't be stored nothing is sent. At the end the history's
     /// chapter ends, if it is over. Nobody is passed over: but for what rows that were added
@@ -79,9 +82,11 @@ impl<D: Disk> Connections<D> {
     }
 
     /// A peer is sent what it is owed, and its connection follows its session.
-    #[tactic(auto, using(crate::proofs::Reaching::moved, crate::proofs::Sent::sent_to))]
+    #[tactic(auto, using(crate::proofs::Reaching::moved, crate::proofs::Sent::sent_to, crate::proofs::Known::known))]
     fn send_owed<E: Eprint>(&mut self, registry: &Registry, rt: &E, key: usize, now: Instant)
         ensures moves { ReachesBy (IsClosing key) self.old.stored self.new.stored }
+        ensures stream { SendsAndFollows S.contents key self.old.links.items self.new.links.items
+            self.old.stored self.new.stored }
         ensures others { OthersStay key self.old.links.items self.new.links.items }
         ensures sent { IsSentTo key self.new.stored self.new.links.items }
         ensures journal { self.new.stored.journal ≡ self.old.stored.journal }
@@ -102,9 +107,11 @@ impl<D: Disk> Connections<D> {
     }
 
     /// A peer is sent what it may be told. What it can still do then, if it has a connection.
-    #[tactic(auto, using(crate::proofs::Streaming::sent, crate::proofs::Sent::sent_to))]
+    #[tactic(auto, using(crate::proofs::Streaming::sent, crate::proofs::Sent::sent_to, crate::proofs::Known::known))]
     fn send_link(&mut self, key: usize, now: Instant) -> Option<Channel>
         ensures moves { ReachesBy (IsSending key) self.old.stored self.new.stored }
+        ensures stream { SendsStream key (known_at S.contents self.old.links.items key)
+            (known_at S.contents self.new.links.items key) self.old.stored self.new.stored }
         ensures others { OthersStay key self.old.links.items self.new.links.items }
         ensures sent { IsSentTo key self.new.stored self.new.links.items }
         ensures journal { self.new.stored.journal ≡ self.old.stored.journal }
@@ -120,13 +127,14 @@ impl<D: Disk> Connections<D> {
     }
 
     /// A peer's connection closes, if its session has ended.
-    #[tactic(auto, using(crate::proofs::Reaching::closed, crate::proofs::Sent::sent_to))]
+    #[tactic(auto, using(crate::proofs::Reaching::closed, crate::proofs::Sent::sent_to, crate::proofs::Known::known))]
     fn follow_session<E: Eprint>(&mut self, rt: &E, key: usize, now: Instant)
         ensures moves { ReachesBy (IsClosing key) self.old.stored self.new.stored }
         ensures others { OthersStay key self.old.links.items self.new.links.items }
         ensures sent { IsSentTo key self.old.stored self.old.links.items
             → IsSentTo key self.new.stored self.new.links.items }
         ensures journal { self.new.stored.journal ≡ self.old.stored.journal }
+        ensures got { GetsNoMore S.contents key self.old.links.items self.new.links.items }
         ensures due { self.new.due ≡ self.old.due }
     {
         if let Some(end) = self.stored.end(key) {
@@ -137,12 +145,13 @@ impl<D: Disk> Connections<D> {
 
     /// Where a peer's turn was over before all was read or sent that could be, its connection is
     /// reported once more.
-    #[tactic(auto, using(crate::proofs::Sent::sent_to))]
+    #[tactic(auto, using(crate::proofs::Sent::sent_to, crate::proofs::Known::known))]
     fn report_again(&mut self, registry: &Registry, key: usize)
         ensures stored { self.new.stored ≡ self.old.stored }
         ensures others { OthersStay key self.old.links.items self.new.links.items }
         ensures sent { IsSentTo key self.old.stored self.old.links.items
             → IsSentTo key self.new.stored self.new.links.items }
+        ensures got { GetsNoMore S.contents key self.old.links.items self.new.links.items }
         ensures due { self.new.due ≡ self.old.due }
     {
         let is_read = self.stored.is_read(key);

@@ -4,6 +4,7 @@ ghost use Rattle.std.specs.Prelude.{◌≡◌, IfSome, Some};
 ghost use Rattle.station.specs.Reads.{speaker_at};
 
 use crate::connections::Connections;
+use crate::peer_stream::PeerSocket;
 use journal::Disk;
 use stamps::Stamp;
 use std::time::Instant;
@@ -19,7 +20,7 @@ pub struct Session {
     pub heard_at: Instant,
 }
 
-impl<D: Disk> Connections<D> {
+impl<D: Disk, S: PeerSocket> Connections<D, S> {
     /// The session of the peer of this key, if it lasts, and came at a door or has brought a
     /// message.
     pub fn session(&self, key: usize) -> Option<Session>

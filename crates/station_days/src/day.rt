@@ -14,7 +14,7 @@ use crate::fault::to_day_fault;
 use day_base::{DayFault, ReportForm, put_book_report, put_places};
 use devices::Counted;
 use journal::Disk;
-use peer_connections::Connections;
+use peer_connections::{Connections, PeerStream};
 use station_server::StationServer;
 use std::alloc::Global;
 use std::io::Write;
@@ -33,7 +33,7 @@ pub fn station_day<W: Write, T: Wait, R: Clock + Eprint, D: Disk>(
     threads: &T,
     rt: &R,
     alloc: Global,
-    connections: &mut Connections<D>,
+    connections: &mut Connections<D, PeerStream>,
     server: &mut StationServer,
     idle: Option<u64>,
     form: ReportForm,
@@ -67,7 +67,7 @@ pub fn station_day<W: Write, T: Wait, R: Clock + Eprint, D: Disk>(
 /// Writes the report of the book, where each of its rows is stored; else nothing.
 fn put_stored_report<W: Write, D: Disk>(
     alloc: Global,
-    connections: &Connections<D>,
+    connections: &Connections<D, PeerStream>,
     form: ReportForm,
     writer: &mut Counted<W>,
     turns: &mut u64,

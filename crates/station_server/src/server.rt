@@ -19,7 +19,7 @@ use mio::event::Event;
 use mio::net::{TcpListener, TcpStream, UnixStream};
 use mio::{Events, Interest, Poll, Token, Waker};
 use page_connections::Pages;
-use peer_connections::Connections;
+use peer_connections::{Connections, PeerStream};
 use site_base::NoMemory;
 use site_json::PeerSession;
 use stamps::StampClock;
@@ -142,7 +142,7 @@ impl StationServer {
         &mut self,
         threads: &T,
         rt: &R,
-        connections: &mut Connections<D>,
+        connections: &mut Connections<D, PeerStream>,
         idle: Option<u64>,
     ) -> Result<(), ServerFault>
         ensures moves { Reaches connections.old.stored connections.new.stored }
@@ -163,7 +163,7 @@ impl StationServer {
         &mut self,
         threads: &T,
         rt: &R,
-        connections: &mut Connections<D>,
+        connections: &mut Connections<D, PeerStream>,
         idle: Option<u64>,
     ) -> Result<(), ServerFault>
         ensures { Reaches connections.old.stored connections.new.stored }
@@ -188,7 +188,7 @@ impl StationServer {
     fn hear_round<R: Clock + Eprint, D: Disk>(
         &mut self,
         rt: &R,
-        connections: &mut Connections<D>,
+        connections: &mut Connections<D, PeerStream>,
         timeout: Option<Duration>,
     ) -> Result<(), ServerFault>
         ensures moves { Reaches connections.old.stored connections.new.stored }
@@ -214,7 +214,7 @@ impl StationServer {
     fn hear_before_sweep<R: Clock + Eprint, D: Disk>(
         &mut self,
         rt: &R,
-        connections: &mut Connections<D>,
+        connections: &mut Connections<D, PeerStream>,
     ) -> Result<(), ServerFault>
         ensures moves { Reaches connections.old.stored connections.new.stored }
         ensures due { StayDue connections.old.due connections.new.due }
@@ -233,7 +233,7 @@ impl StationServer {
 
     /// The connections of the page that are ready have their turn. Each row is stored: so it tells
     /// of no other.
-    fn serve_page<D: Disk>(&mut self, connections: &mut Connections<D>)
+    fn serve_page<D: Disk>(&mut self, connections: &mut Connections<D, PeerStream>)
         requires { is_all_stored connections.old.stored ≡ true }
         ensures station { connections.new.stored.station ≡ connections.old.stored.station }
         ensures journal { connections.new.stored.journal ≡ connections.old.stored.journal }
@@ -266,7 +266,7 @@ impl StationServer {
     /// sessions that were held back are read on.
     fn poll_timeout<D: Disk>(
         &self,
-        connections: &Connections<D>,
+        connections: &Connections<D, PeerStream>,
         idle: Option<u64>,
     ) -> Option<Duration> {
         if let Some(left) = connections.hold_left(self.rounds.waited()) {
@@ -286,7 +286,7 @@ impl StationServer {
 
     /// Each connection that is ready has its turn. One of the page has it behind those.
     #[tactic(auto, using(crate::proofs::Rounds::moved, crate::proofs::Rounds::heard))]
-    fn take_turns<D: Disk>(&mut self, connections: &mut Connections<D>) -> Result<(), ServerFault>
+    fn take_turns<D: Disk>(&mut self, connections: &mut Connections<D, PeerStream>) -> Result<(), ServerFault>
         ensures moves { Reaches connections.old.stored connections.new.stored }
         ensures due { StayDue connections.old.due connections.new.due }
     {
@@ -312,7 +312,7 @@ impl StationServer {
 
     /// Accepts the connections that wait, at the doors and over TCP, unless accepting has failed.
     #[tactic(auto, using(crate::proofs::Rounds::moved))]
-    fn accept_waiting<R: Eprint, D: Disk>(&mut self, rt: &R, connections: &mut Connections<D>)
+    fn accept_waiting<R: Eprint, D: Disk>(&mut self, rt: &R, connections: &mut Connections<D, PeerStream>)
         ensures { Reaches connections.old.stored connections.new.stored }
     {
         if self.is_refused {
@@ -328,7 +328,7 @@ impl StationServer {
 
     /// Accepts the connections that wait over TCP, if some do.
     #[tactic(auto, using(crate::proofs::Rounds::moved))]
-    fn accept_on_port<R: Eprint, D: Disk>(&mut self, rt: &R, connections: &mut Connections<D>)
+    fn accept_on_port<R: Eprint, D: Disk>(&mut self, rt: &R, connections: &mut Connections<D, PeerStream>)
         ensures { ReachesBy (IsWelcome None) connections.old.stored connections.new.stored }
     {
         if self.has_callers {
@@ -338,7 +338,7 @@ impl StationServer {
 
     /// Accepts the connections that wait at the doors, as `accept_all` does.
     #[tactic(auto, using(crate::proofs::Rounds::moved))]
-    fn accept_at_doors<R: Eprint, D: Disk>(&mut self, rt: &R, connections: &mut Connections<D>)
+    fn accept_at_doors<R: Eprint, D: Disk>(&mut self, rt: &R, connections: &mut Connections<D, PeerStream>)
         ensures { Reaches connections.old.stored connections.new.stored }
     {
         for place in 0..self.doors.len() {
@@ -353,7 +353,7 @@ impl StationServer {
     fn accept_at_door<R: Eprint, D: Disk>(
         &mut self,
         rt: &R,
-        connections: &mut Connections<D>,
+        connections: &mut Connections<D, PeerStream>,
         place: usize,
     )
         ensures { ReachesBy (IsWelcome (Some place)) connections.old.stored connections.new.stored }
@@ -374,7 +374,7 @@ impl StationServer {
     fn welcome_next_at<R: Eprint, D: Disk>(
         &mut self,
         rt: &R,
-        connections: &mut Connections<D>,
+        connections: &mut Connections<D, PeerStream>,
         place: usize,
     ) -> Accepting
         ensures { ReachesBy (IsWelcome (Some place)) connections.old.stored connections.new.stored }
@@ -383,6 +383,7 @@ impl StationServer {
             Caller::Came(stream) => {
                 self.has_accepted = true;
                 let registry = self.poll.registry();
+                let stream = PeerStream::Unix(stream);
                 connections.welcome_at(registry, rt, place, stream, self.rounds.waited());
                 Accepting::GoesOn
             }
@@ -399,7 +400,7 @@ impl StationServer {
     #[tactic(auto, using(crate::proofs::Rounds::moved))]
     fn accept_one_at<D: Disk>(
         &mut self,
-        connections: &mut Connections<D>,
+        connections: &mut Connections<D, PeerStream>,
         place: usize,
     ) -> Caller<UnixStream>
         ensures { ReachesBy (IsDismissal None) connections.old.stored connections.new.stored }
@@ -418,7 +419,7 @@ impl StationServer {
 
     /// Accepts one connection that waits over TCP, as `accept_one_at` does.
     #[tactic(auto, using(crate::proofs::Rounds::moved))]
-    fn accept_one<D: Disk>(&mut self, connections: &mut Connections<D>) -> Caller<TcpStream>
+    fn accept_one<D: Disk>(&mut self, connections: &mut Connections<D, PeerStream>) -> Caller<TcpStream>
         ensures { ReachesBy (IsDismissal None) connections.old.stored connections.new.stored }
     {
         match accept_at(&self.listener) {
@@ -436,7 +437,7 @@ impl StationServer {
     /// Accepts the connections that wait over TCP. Where that fails it is told, once until all that
     /// wait are accepted, and tried again.
     #[tactic(auto, using(crate::proofs::Rounds::moved))]
-    fn accept_all<R: Eprint, D: Disk>(&mut self, rt: &R, connections: &mut Connections<D>)
+    fn accept_all<R: Eprint, D: Disk>(&mut self, rt: &R, connections: &mut Connections<D, PeerStream>)
         ensures { ReachesBy (IsWelcome None) connections.old.stored connections.new.stored }
     {
         for _ in 0..ACCEPTS_A_TURN {
@@ -459,13 +460,14 @@ impl StationServer {
     fn welcome_next<R: Eprint, D: Disk>(
         &mut self,
         rt: &R,
-        connections: &mut Connections<D>,
+        connections: &mut Connections<D, PeerStream>,
     ) -> Accepting
         ensures { ReachesBy (IsWelcome None) connections.old.stored connections.new.stored }
     {
         match self.accept_one(connections) {
             Caller::Came(stream) => {
                 self.has_accepted = true;
+                let stream = PeerStream::Tcp(stream);
                 connections.welcome(self.poll.registry(), rt, stream, self.rounds.waited());
                 Accepting::GoesOn
             }
@@ -502,7 +504,7 @@ impl StationServer {
     fn send_all<R: Clock + Eprint, D: Disk>(
         &mut self,
         rt: &R,
-        connections: &mut Connections<D>,
+        connections: &mut Connections<D, PeerStream>,
         idle: Option<u64>,
     ) -> Result<(), ServerFault>
         ensures moves { Reaches connections.old.stored connections.new.stored }
@@ -518,7 +520,7 @@ impl StationServer {
     /// Where a dispenser is told of a row of this round, whoever is owed octets is due, but for
     /// those whose connections take none for now; before a sweep those are, too.
     #[tactic(auto, using(crate::proofs::Rounds::moved, crate::proofs::Rounds::heard))]
-    fn note_due<D: Disk>(&self, connections: &mut Connections<D>)
+    fn note_due<D: Disk>(&self, connections: &mut Connections<D, PeerStream>)
         ensures stored { connections.new.stored ≡ connections.old.stored }
         ensures due { StayDue connections.old.due connections.new.due }
         ensures owed { HasChange connections.old.changes connections.old.stored.station.book
@@ -536,7 +538,7 @@ impl StationServer {
     fn sweep_if_due<R: Eprint, D: Disk>(
         &mut self,
         rt: &R,
-        connections: &mut Connections<D>,
+        connections: &mut Connections<D, PeerStream>,
         idle: Option<u64>,
     ) -> Result<(), ServerFault>
         requires { is_all_stored connections.old.stored ≡ true }
@@ -554,7 +556,7 @@ impl StationServer {
 
     /// Accepts again, where that failed.
     #[tactic(auto, using(crate::proofs::Rounds::moved))]
-    fn accept_again<R: Eprint, D: Disk>(&mut self, rt: &R, connections: &mut Connections<D>)
+    fn accept_again<R: Eprint, D: Disk>(&mut self, rt: &R, connections: &mut Connections<D, PeerStream>)
         ensures { Reaches connections.old.stored connections.new.stored }
     {
         if self.is_refused {
@@ -584,7 +586,7 @@ enum Accepting {
 /// The sessions of the peers whose nodes are known, in the order of their keys.
 fn list_sessions<D: Disk>(
     alloc: Global,
-    connections: &Connections<D>,
+    connections: &Connections<D, PeerStream>,
     now: Instant,
 ) -> Result<Vec<PeerSession>, NoMemory> {
     let mut sessions = Vec::new(alloc);
@@ -607,7 +609,7 @@ fn list_sessions<D: Disk>(
 /// given room for what it sent, that ends the day.
 #[tactic(auto, using(crate::proofs::Rounds::moved, crate::proofs::Rounds::heard))]
 fn take_turn<D: Disk>(
-    connections: &mut Connections<D>,
+    connections: &mut Connections<D, PeerStream>,
     event: &Event,
     key: usize,
     now: Instant,

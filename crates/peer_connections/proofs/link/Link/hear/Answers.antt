@@ -4,30 +4,30 @@ use Rattle.peer_connections.proofs.link.Link.hear.Goals as goal
 use Rattle.peer_connections.proofs.link.Link.hear.Goals.{in-Interrupted, in-Passed+else-n-size}
 
 -- no room could be made
-pub returns-in_err-n : goal.returns-in_err-n
-returns-in_err-n g c =
+pub returns-in_err-n-clause-stream : goal.returns-in_err-n-clause-stream
+returns-in_err-n-clause-stream g c =
     heard_then _ _ _ _ _ _ _ c.loop.invariant.heard
     (heard_ready _ _ _ _ _ (ap (λ x. g.S.Read.remaining x) c.in_err-n.ensures.unread)
     (inl c.in_err-n.ensures.err) c.in_err-n.ensures.journal)
 
 -- it was read once
-pub returns-then-not-to_wait : goal.returns-then-not-to_wait
-returns-then-not-to_wait g c =
+pub returns-then-not-to_wait-clause-stream : goal.returns-then-not-to_wait-clause-stream
+returns-then-not-to_wait-clause-stream g c =
     heard_then _ _ _ _ _ _ _ c.loop.invariant.heard
     (heard_with_room _ _ _ _ _ _ c.in_ok-n.ensures.hears c.in_ok-n.ensures.journal)
 
-pub returns-in-Waits : goal.returns-in-Waits
-returns-in-Waits g c =
+pub returns-in-Waits-clause-stream : goal.returns-in-Waits-clause-stream
+returns-in-Waits-clause-stream g c =
     heard_then _ _ _ _ _ _ _ c.loop.invariant.heard
     (heard_with_room _ _ _ _ _ _ c.in_ok-n.ensures.hears c.in_ok-n.ensures.journal)
 
-pub returns-in-Ended : goal.returns-in-Ended
-returns-in-Ended g c =
+pub returns-in-Ended-clause-stream : goal.returns-in-Ended-clause-stream
+returns-in-Ended-clause-stream g c =
     heard_then _ _ _ _ _ _ _ c.loop.invariant.heard
     (heard_with_room _ _ _ _ _ _ c.in_ok-n.ensures.hears c.in_ok-n.ensures.journal)
 
-pub returns-in-Failed : goal.returns-in-Failed
-returns-in-Failed g c =
+pub returns-in-Failed-clause-stream : goal.returns-in-Failed-clause-stream
+returns-in-Failed-clause-stream g c =
     heard_then _ _ _ _ _ _ _ c.loop.invariant.heard
     (heard_with_room _ _ _ _ _ _ c.in_ok-n.ensures.hears c.in_ok-n.ensures.journal)
 
@@ -44,4 +44,5 @@ loop-preserved g c = record {
         (heard_with_room _ _ _ _ _ _ c.in_ok-n.ensures.hears c.in_ok-n.ensures.journal))
   ];
   size = search rules;
+  seen = search rules;
 }

@@ -1,5 +1,6 @@
 use Rattle.std.proofs.Common.{◌≡◌, length}
 use Rattle.station.specs.declared.sizes.TheConstants.{HEARD_OCTETS}
+use Rattle.peer_connections.specs.Sending.{HasSeen}
 use Rattle.peer_connections.specs.Streams.{HearsStream}
 use Rattle.peer_connections.proofs.link.Link.hear.Given as goal
 
@@ -8,4 +9,5 @@ invariant-loop g l = record {
   heard : HearsStream l.fn.key (g.S.Read.remaining l.fn.self.stream)
       (g.S.Read.remaining l.self.stream) l.fn.stored l.stored;
   size : length l.piece ≡ HEARD_OCTETS;
+  seen : HasSeen l.changes.rows_seen l.stored.station.book;
 }

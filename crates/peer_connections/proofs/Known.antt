@@ -1,0 +1,107 @@
+-- What is known of a key's own connection, as something is done with it.
+use Rattle.std.proofs.Common.{◌≡◌, ℕ, true, false, List, Option, Some, None, get_or, ap, sym}
+use Rattle.std.proofs.Common.{◌∙◌, refl, subst}
+use Rattle.std.proofs.Math.ListN.{set}
+use Rattle.std.specs.Prelude.{is_some}
+use Rattle.journal.specs.Stored.{StoredState}
+use Rattle.peer_connections.specs.declared.link.Link.{Link}
+use Rattle.peer_connections.specs.Links.{has_link}
+use Rattle.peer_connections.specs.Streams.{GetsNoMore, HearsStream, SendsStream, known_at}
+use Rattle.peer_connections.specs.Streams.{known_of}
+use Rattle.peer_connections.proofs.Pairing.{gone_link}
+use Rattle.peer_connections.proofs.Sent.{set_there}
+use Rattle.peer_connections.proofs.Streaming.{heard_none, sent_none}
+
+-- what is known of a connection that is there
+known_there : {S : Type 0} (known : S → Option (List ℕ)) (key : ℕ) (links : List (Option (Link S)))
+    (link : Link S) → get_or links key None ≡ Some link
+    → known_at known links key ≡ known link.stream
+known_there known key links link is = ap (known_of known) is
+
+-- .. that is another one now
+known_set : {S : Type 0} (known : S → Option (List ℕ)) (key : ℕ) (links : List (Option (Link S)))
+    (old link : Link S) → get_or links key None ≡ Some old
+    → known_at known (set links key (Some link)) key ≡ known link.stream
+known_set known key links old link is = ap (known_of known) (set_there key links old link is)
+
+-- ---- it got no more
+
+pub no_more_same : {S : Type 0} (got : S → Option (List ℕ)) (key : ℕ)
+    (links links' : List (Option (Link S))) → links' ≡ links → GetsNoMore got key links links'
+no_more_same got key links links' same is =
+    ap (λ (l : List (Option (Link _))). known_at got l key) same
+
+pub no_more_set : {S : Type 0} (got : S → Option (List ℕ)) (key : ℕ)
+    (links : List (Option (Link S))) (old link : Link S) → get_or links key None ≡ Some old
+    → got link.stream ≡ got old.stream → GetsNoMore got key links (set links key (Some link))
+no_more_set got key links old link is same there =
+    known_set got key links old link is ∙ same ∙ sym (known_there got key links old is)
+
+pub no_more_gone : {S : Type 0} (got : S → Option (List ℕ)) (key : ℕ)
+    (links : List (Option (Link S))) → GetsNoMore got key links (set links key None)
+no_more_gone got key links there =
+    absurd (let never : false ≡ true = sym (ap is_some (gone_link key links)) ∙ there in cc)
+
+-- .. in one thing after another: where it is there at the end, it was before
+pub no_more_then : {S : Type 0} (got : S → Option (List ℕ)) (key : ℕ)
+    (a b c : List (Option (Link S))) → (has_link c key ≡ true → has_link b key ≡ true)
+    → GetsNoMore got key a b → GetsNoMore got key b c → GetsNoMore got key a c
+no_more_then got key a b c was one two there = two there ∙ one (was there)
+
+-- ---- it was heard, and sent to
+
+pub heard_there : {S : Type 0} (left : S → Option (List ℕ)) (key : ℕ)
+    (links : List (Option (Link S))) (old link : Link S) (s t : StoredState)
+    → get_or links key None ≡ Some old
+    → HearsStream key (left old.stream) (left link.stream) s t
+    → HearsStream key (known_at left links key) (known_at left (set links key (Some link)) key) s t
+heard_there left key links old link s t is heard =
+    subst (λ (u : Option (List ℕ)). HearsStream key u
+    (known_at left (set links key (Some link)) key) s t) (sym (known_there left key links old is))
+    (subst (λ (u : Option (List ℕ)). HearsStream key (left old.stream) u s t)
+    (sym (known_set left key links old link is)) heard)
+
+pub heard_nothing : {S : Type 0} (left : S → Option (List ℕ)) (key : ℕ)
+    (links : List (Option (Link S))) (old link : Link S) (s t : StoredState)
+    → get_or links key None ≡ Some old → left link.stream ≡ left old.stream → t ≡ s
+    → HearsStream key (known_at left links key) (known_at left (set links key (Some link)) key) s t
+heard_nothing left key links old link s t is same stays =
+    heard_there left key links old link s t is
+    (heard_none key (left old.stream) (left link.stream) s t same stays)
+
+pub heard_nobody : {S : Type 0} (left : S → Option (List ℕ)) (key : ℕ)
+    (links links' : List (Option (Link S))) (s t : StoredState) → links' ≡ links → t ≡ s
+    → HearsStream key (known_at left links key) (known_at left links' key) s t
+heard_nobody left key links links' s t same stays =
+    heard_none key (known_at left links key) (known_at left links' key) s t
+    (ap (λ (l : List (Option (Link _))). known_at left l key) same) stays
+
+pub sent_there : {S : Type 0} (got : S → Option (List ℕ)) (key : ℕ)
+    (links : List (Option (Link S))) (old link : Link S) (s t : StoredState)
+    → get_or links key None ≡ Some old
+    → SendsStream key (got old.stream) (got link.stream) s t
+    → SendsStream key (known_at got links key) (known_at got (set links key (Some link)) key) s t
+sent_there got key links old link s t is sent =
+    subst (λ (u : Option (List ℕ)). SendsStream key u
+    (known_at got (set links key (Some link)) key) s t) (sym (known_there got key links old is))
+    (subst (λ (u : Option (List ℕ)). SendsStream key (got old.stream) u s t)
+    (sym (known_set got key links old link is)) sent)
+
+pub sent_nothing : {S : Type 0} (got : S → Option (List ℕ)) (key : ℕ)
+    (links links' : List (Option (Link S))) (s t : StoredState) → links' ≡ links → t ≡ s
+    → SendsStream key (known_at got links key) (known_at got links' key) s t
+sent_nothing got key links links' s t same stays =
+    sent_none key (known_at got links key) (known_at got links' key) s t
+    (ap (λ (l : List (Option (Link _))). known_at got l key) same) stays
+
+-- a connection that is heard is one of a session that lasts
+pub ruleset known = (
+  no_more_same,
+  no_more_set,
+  no_more_gone,
+  heard_there,
+  heard_nothing,
+  heard_nobody,
+  sent_there,
+  sent_nothing,
+)
