@@ -1,13 +1,20 @@
 -- What is known of a key's own connection, as something is done with it.
 use Rattle.std.proofs.Common.{◌≡◌, ℕ, true, false, List, Option, Some, None, get_or, ap, sym}
-use Rattle.std.proofs.Common.{◌∙◌, refl, subst}
+use Rattle.std.proofs.Common.{[], ◌∙◌, inl, inr, refl, subst}
 use Rattle.std.proofs.Math.ListN.{set}
 use Rattle.std.specs.Prelude.{is_some}
+use Rattle.station.specs.declared.peer_end.PeerEnd.TheVariants.{Behind}
+use Rattle.station.specs.Moves.{StationState, without_peer}
+use Rattle.station.specs.Peers.{peer_at}
+use Rattle.station.specs.Reads.{end_at, owed_at}
 use Rattle.journal.specs.Stored.{StoredState}
+use Rattle.peer_connections.specs.declared.link.Channel.TheVariants.{Failed}
 use Rattle.peer_connections.specs.declared.link.Link.{Link}
-use Rattle.peer_connections.specs.Links.{has_link}
+use Rattle.peer_connections.specs.Links.{ArePaired, has_link, has_peer}
+use Rattle.peer_connections.specs.Sending.{FailsAt, IsLetGo}
 use Rattle.peer_connections.specs.Streams.{GetsNoMore, HearsStream, SendsStream, known_at}
 use Rattle.peer_connections.specs.Streams.{known_of}
+use Rattle.peer_connections.proofs.Leaving.{left_gone}
 use Rattle.peer_connections.proofs.Pairing.{gone_link}
 use Rattle.peer_connections.proofs.Sent.{set_there}
 use Rattle.peer_connections.proofs.Streaming.{heard_none, sent_none}
@@ -94,7 +101,53 @@ sent_nothing got key links links' s t same stays =
     sent_none key (known_at got links key) (known_at got links' key) s t
     (ap (λ (l : List (Option (Link _))). known_at got l key) same) stays
 
--- a connection that is heard is one of a session that lasts
+-- ---- a peer is let go
+
+-- whoever is there still isn't
+pub let_go_not : {L : Type 0} (key : ℕ) (s t : StationState) (links links' : List (Option L))
+    → ArePaired links s.peers → ArePaired links' t.peers → t ≡ s → IsLetGo key s links links'
+let_go_not key s t links links' before after same was gone =
+    absurd (let never : true ≡ false =
+    sym was ∙ before key ∙ sym (ap (λ (u : StationState). has_peer u.peers key) same)
+    ∙ sym (after key) ∙ gone in cc)
+
+pub let_go_behind : {L : Type 0} (key : ℕ) (s : StationState) (links links' : List (Option L))
+    → end_at s key ≡ Some Behind → IsLetGo key s links links'
+let_go_behind key s links links' behind was gone = inl behind
+
+pub let_go_unowed : {L : Type 0} (key : ℕ) (s : StationState) (links links' : List (Option L))
+    → owed_at s key ≡ [] → IsLetGo key s links links'
+let_go_unowed key s links links' none was gone = inr none
+
+-- the station stays: whoever is there was
+pub still_there : {L : Type 0} (key : ℕ) (s t : StationState) (links links' : List (Option L))
+    → ArePaired links s.peers → ArePaired links' t.peers → t ≡ s
+    → has_link links' key ≡ true → has_link links key ≡ true
+still_there key s t links links' before after same there =
+    before key ∙ sym (ap (λ (u : StationState). has_peer u.peers key) same) ∙ sym (after key)
+    ∙ there
+
+pub let_go_then : {L : Type 0} (key : ℕ) (s t u : StationState) (a b c : List (Option L))
+    → ArePaired b t.peers → ArePaired c u.peers → u ≡ t → IsLetGo key s a b → IsLetGo key s a c
+let_go_then key s t u a b c before after same go was gone =
+    go was (before key ∙ sym (ap (λ (v : StationState). has_peer v.peers key) same)
+    ∙ sym (after key) ∙ gone)
+
+-- whoever has left isn't there
+pub gone_there : {L : Type 0} (key : ℕ) (s t : StationState) (links : List (Option L))
+    → ArePaired links t.peers → t ≡ without_peer key s → has_link links key ≡ true → ⊥
+gone_there key s t links paired left there =
+    let never : false ≡ true =
+    sym (ap is_some (ap (λ (u : StationState). peer_at u.peers key) left ∙ left_gone key s))
+    ∙ sym (paired key) ∙ there in cc
+
+-- a connection has failed
+pub fails_there : {S : Type 0} (key : ℕ) (links : List (Option (Link S))) (old link : Link S)
+    → get_or links key None ≡ Some old → link.channel ≡ Failed
+    → FailsAt (get_or (set links key (Some link)) key None)
+fails_there {S = S} key links old link is failed =
+    subst (λ (l : Option (Link S)). FailsAt l) (sym (set_there key links old link is)) failed
+
 pub ruleset known = (
   no_more_same,
   no_more_set,
@@ -104,4 +157,8 @@ pub ruleset known = (
   heard_nobody,
   sent_there,
   sent_nothing,
+  let_go_not,
+  let_go_behind,
+  let_go_unowed,
+  fails_there,
 )

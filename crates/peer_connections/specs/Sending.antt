@@ -5,12 +5,14 @@ use Rattle.site_base.specs.declared.row.Row.{Row}
 use Rattle.site_book.specs.Book.{Book}
 use Rattle.site_book.specs.Changes.{is_changing}
 use Rattle.station.specs.Moves.{StationState}
-use Rattle.station.specs.Reads.{owed_at}
+use Rattle.station.specs.declared.peer_end.PeerEnd.TheVariants.{Behind}
+use Rattle.station.specs.Reads.{end_at, owed_at}
 use Rattle.journal.specs.Stored.{StoredState, told_at}
 use Rattle.peer_connections.specs.declared.change_watch.ChangeWatch.{ChangeWatch}
 use Rattle.peer_connections.specs.declared.link.Channel.TheVariants.{Failed}
 use Rattle.peer_connections.specs.declared.link.Link.{Link}
 use Rattle.peer_connections.specs.Due.{is_due}
+use Rattle.peer_connections.specs.Links.{has_link}
 
 -- so many rows were looked at: each one that is forgotten, and none that isn't there
 abbrev pub HasSeen : ℕ → Book → Type 0
@@ -55,6 +57,18 @@ HasStopped link =
 abbrev pub StopsAt : {S : Type 0} → Option (Link S) → Type 0
 StopsAt None = ⊥
 StopsAt (Some link) = HasStopped link
+
+-- a connection that has failed
+abbrev pub FailsAt : {S : Type 0} → Option (Link S) → Type 0
+FailsAt None = ⊥
+FailsAt (Some link) = link.channel ≡ Failed
+
+-- A key's peer, if it was there and is no more, was let go: its session ended since it doesn't take
+-- what it is owed, or it is owed nothing.
+abbrev pub IsLetGo : {L : Type 0} → ℕ → StationState → List (Option L) → List (Option L) → Type 0
+IsLetGo key s links links' =
+    has_link links key ≡ true → has_link links' key ≡ false
+    → (end_at s key ≡ Some Behind) ⊎ (owed_at s key ≡ [])
 
 -- the peer of a key may be told nothing more, or its connection has stopped
 abbrev pub IsSentTo : {S : Type 0} → ℕ → StoredState → List (Option (Link S)) → Type 0

@@ -1,6 +1,6 @@
 -- What a peer says is what is read of its connection, and what is sent there is what it may be
 -- told.
-use Rattle.std.specs.Prelude.{◌≡◌, ℕ, List, [], ◌∷◌, ◌++◌, Option, Some, None, get_or, true}
+use Rattle.std.specs.Prelude.{◌≡◌, ◌⊎◌, ℕ, List, [], ◌∷◌, ◌++◌, Option, Some, None, get_or, true}
 use Rattle.std.specs.Io.KnownBytes.{Appends, Consumes}
 use Rattle.station.specs.Runs.{Move, Says}
 use Rattle.journal.specs.Stored.{StoredState, told_at}
@@ -8,6 +8,7 @@ use Rattle.peer_connections.specs.declared.link.Link.{Link}
 use Rattle.peer_connections.specs.Allowed.{IsClosing, IsHearing, IsSending}
 use Rattle.peer_connections.specs.Links.{has_link}
 use Rattle.peer_connections.specs.Reaches.{ReachesBy}
+use Rattle.peer_connections.specs.Sending.{FailsAt, IsLetGo}
 
 -- the octets that come with a move
 abbrev pub said_with : Move → List ℕ
@@ -53,7 +54,7 @@ GetsNoMore got key links links' =
     has_link links' key ≡ true → known_at got links' key ≡ known_at got links key
 
 -- The peer of this key is sent to, by its own connection. Then that follows its session, and gets
--- no more.
+-- no more. The peer leaves if the connection has failed, or if it is let go.
 pub record SendsAndFollows {S : Type 0} (got : S → Option (List ℕ)) (key : ℕ)
     (links links' : List (Option (Link S))) (earlier later : StoredState) : Type 0 where
   pub sent_to : StoredState
@@ -61,3 +62,4 @@ pub record SendsAndFollows {S : Type 0} (got : S → Option (List ℕ)) (key : �
   pub sends : SendsStream key (known_at got links key) (known_at got between key) earlier sent_to
   pub follows : ReachesBy (IsClosing key) sent_to later
   pub no_more : GetsNoMore got key between links'
+  pub let_go : FailsAt (get_or between key None) ⊎ IsLetGo key sent_to.station between links'

@@ -1,12 +1,13 @@
 //! Connections that close, since their sessions have ended.
 
-ghost use Rattle.std.specs.Prelude.{◌≡◌, false};
+ghost use Rattle.std.specs.Prelude.{◌≡◌, Some, false};
 ghost use Rattle.station.specs.Moves.{without_peer};
+ghost use Rattle.station.specs.Reads.{end_at};
 ghost use Rattle.journal.specs.Stored.{with_station};
 ghost use Rattle.peer_connections.specs.Allowed.{IsClosing, lasts_at};
 ghost use Rattle.peer_connections.specs.Links.{OthersStay};
 ghost use Rattle.peer_connections.specs.Reaches.{ReachesBy};
-ghost use Rattle.peer_connections.specs.Sending.{IsSentTo};
+ghost use Rattle.peer_connections.specs.Sending.{IsLetGo, IsSentTo};
 ghost use Rattle.peer_connections.specs.Streams.{GetsNoMore};
 
 use crate::connections::Connections;
@@ -72,12 +73,15 @@ impl<D: Disk, S: PeerSocket> Connections<D, S> {
     /// owed is closed at once.
     #[tactic(auto, using(crate::proofs::Reaching::closed, crate::proofs::Sent::sent_to, crate::proofs::Known::known))]
     pub(crate) fn end_connection(&mut self, key: usize, end: PeerEnd)
-        requires { lasts_at self.old.stored.station key ≡ false }
+        requires ended { lasts_at self.old.stored.station key ≡ false }
+        requires so { end_at self.old.stored.station key ≡ Some end }
         ensures moves { ReachesBy (IsClosing key) self.old.stored self.new.stored }
         ensures others { OthersStay key self.old.links.items self.new.links.items }
         ensures sent { IsSentTo key self.old.stored self.old.links.items
             → IsSentTo key self.new.stored self.new.links.items }
         ensures journal { self.new.stored.journal ≡ self.old.stored.journal }
+        ensures let_go { IsLetGo key self.old.stored.station self.old.links.items
+            self.new.links.items }
         ensures got { GetsNoMore S.contents key self.old.links.items self.new.links.items }
         ensures due { self.new.due ≡ self.old.due }
     {

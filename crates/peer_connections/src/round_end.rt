@@ -1,11 +1,13 @@
 //! The end of a round: its rows are stored, and whoever is due is sent what it is owed.
 
-ghost use Rattle.std.specs.Prelude.{◌≡◌, ◌<◌, ◌≤◌, ◌+◌, [], length, OnOk, take, true};
+ghost use Rattle.std.specs.Prelude.{◌≡◌, ◌<◌, ◌≤◌, ◌+◌, [], length, None, OnOk, Some};
+ghost use Rattle.std.specs.Prelude.{get_or, take, true};
+ghost use Rattle.peer_connections.specs.declared.link.Channel.{Channel};
 ghost use Rattle.journal.specs.Stored.{is_all_stored};
 ghost use Rattle.peer_connections.specs.Allowed.{IsClosing, IsFollowing, IsSending};
 ghost use Rattle.peer_connections.specs.Links.{OthersStay};
 ghost use Rattle.peer_connections.specs.Reaches.{ReachesBy};
-ghost use Rattle.peer_connections.specs.Sending.{AreSentTo, IsSentTo};
+ghost use Rattle.peer_connections.specs.Sending.{AreSentTo, FailsAt, IsLetGo, IsSentTo};
 ghost use Rattle.peer_connections.specs.Streams.{GetsNoMore, SendsAndFollows, SendsStream};
 ghost use Rattle.peer_connections.specs.Streams.{known_at};
 
@@ -115,6 +117,8 @@ impl<D: Disk, S: PeerSocket> Connections<D, S> {
         ensures others { OthersStay key self.old.links.items self.new.links.items }
         ensures sent { IsSentTo key self.new.stored self.new.links.items }
         ensures journal { self.new.stored.journal ≡ self.old.stored.journal }
+        ensures failed { result ≡ Some Channel.Failed
+            → FailsAt (get_or self.new.links.items key None) }
         ensures due { self.new.due ≡ self.old.due }
     {
         if let Some(slot) = self.links.get_mut(key) {
@@ -134,6 +138,8 @@ impl<D: Disk, S: PeerSocket> Connections<D, S> {
         ensures sent { IsSentTo key self.old.stored self.old.links.items
             → IsSentTo key self.new.stored self.new.links.items }
         ensures journal { self.new.stored.journal ≡ self.old.stored.journal }
+        ensures let_go { IsLetGo key self.old.stored.station self.old.links.items
+            self.new.links.items }
         ensures got { GetsNoMore S.contents key self.old.links.items self.new.links.items }
         ensures due { self.new.due ≡ self.old.due }
     {

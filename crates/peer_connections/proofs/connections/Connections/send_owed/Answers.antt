@@ -1,6 +1,8 @@
-use Rattle.std.proofs.Common.{ap, ◌∙◌}
+use Rattle.std.proofs.Common.{ap, inl, inr, refl, ◌∙◌}
 use Rattle.journal.specs.Stored.{StoredState}
 use Rattle.peer_connections.specs.Allowed.{lasts_at}
+use Rattle.peer_connections.proofs.Known.{gone_there, let_go_not, let_go_then, no_more_same}
+use Rattle.peer_connections.proofs.Known.{no_more_then, still_there}
 use Rattle.peer_connections.proofs.Linking.{others_then}
 use Rattle.peer_connections.proofs.Reaching.{finished_at, over_at, reaches_closing}
 use Rattle.peer_connections.proofs.Reaching.{reaches_finished}
@@ -30,6 +32,22 @@ returns-in-Some-Failed-clause-moves g c =
 -- .. else it follows its session
 pub returns-in-Some : goal.returns-in-Some
 returns-in-Some g c = record {
+  stream = record {
+    sent_to = c.send_link.new.self.stored;
+    between = c.send_link.new.self.links.items;
+    sends = c.send_link.ensures.stream;
+    follows = reaches_then _ _ _ _ c.follow_session.ensures.moves
+        (reaches_same _ _ _ c.report_again.ensures.stored);
+    no_more = no_more_then _ _ _ _ _ (still_there c.args.key
+        c.follow_session.new.self.stored.station _ _ _
+        c.follow_session.new.self.paired c.report_again.new.self.paired
+        (ap (λ (s : StoredState). s.station) c.report_again.ensures.stored))
+        c.follow_session.ensures.got c.report_again.ensures.got;
+    let_go = inr (let_go_then c.args.key _ c.follow_session.new.self.stored.station _ _ _ _
+        c.follow_session.new.self.paired c.report_again.new.self.paired
+        (ap (λ (s : StoredState). s.station) c.report_again.ensures.stored)
+        c.follow_session.ensures.let_go);
+  };
   moves = reaches_then _ _ _ _ (reaches_closing _ _ _ c.send_link.ensures.moves)
       (reaches_then _ _ _ _ c.follow_session.ensures.moves
       (reaches_same _ _ _ c.report_again.ensures.stored));
@@ -39,4 +57,34 @@ returns-in-Some g c = record {
   journal = ap (λ (s : StoredState). s.journal) c.report_again.ensures.stored
       ∙ c.follow_session.ensures.journal ∙ c.send_link.ensures.journal;
   due = c.report_again.ensures.due ∙ c.follow_session.ensures.due ∙ c.send_link.ensures.due;
+}
+
+-- what was sent before its connection failed
+pub returns-in-Some-Failed-clause-stream : goal.returns-in-Some-Failed-clause-stream
+returns-in-Some-Failed-clause-stream g c = record {
+  sent_to = c.send_link.new.self.stored;
+  between = c.send_link.new.self.links.items;
+  sends = c.send_link.ensures.stream;
+  follows = reaches_then _ _ _ _ (reaches_finished c.args.key _ _ c.finish.ensures)
+      (reaches_then _ _ _ _ (reaches_same _ _ _ c.begin_to_close.ensures.stored)
+      (reaches_gone c.args.key _ _
+      (ap (λ (s : StoredState). lasts_at s.station c.args.key)
+      (c.begin_to_close.ensures.stored ∙ c.finish.ensures)
+      ∙ finished_at c.args.key _)
+      c.remove.ensures.left));
+  no_more = λ there. absurd (gone_there c.args.key c.begin_to_close.new.self.stored.station _ _ _
+      c.remove.new.self.paired (ap (λ (s : StoredState). s.station) c.remove.ensures.left) there);
+  let_go = inl (c.send_link.ensures.failed c.in-Some-Failed.is);
+}
+
+-- nobody is there
+pub returns-in-None-clause-stream : goal.returns-in-None-clause-stream
+returns-in-None-clause-stream g c = record {
+  sent_to = c.send_link.new.self.stored;
+  between = c.send_link.new.self.links.items;
+  sends = c.send_link.ensures.stream;
+  follows = reaches_same _ _ _ refl;
+  no_more = no_more_same _ _ _ _ refl;
+  let_go = inr (let_go_not c.args.key c.send_link.new.self.stored.station _ _ _
+      c.send_link.new.self.paired c.send_link.new.self.paired refl);
 }
