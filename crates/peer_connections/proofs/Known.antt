@@ -1,8 +1,8 @@
 -- What is known of a key's own connection, as something is done with it.
 use Rattle.std.proofs.Common.{◌≡◌, ℕ, true, false, List, Option, Some, None, get_or, ap, sym}
-use Rattle.std.proofs.Common.{[], ◌∙◌, inl, inr, refl, subst}
+use Rattle.std.proofs.Common.{[], ◌∷◌, ◌∙◌, inl, inr, refl, subst}
 use Rattle.std.proofs.Math.ListN.{set}
-use Rattle.std.specs.Prelude.{is_some}
+use Rattle.std.specs.Prelude.{◌==◌, is_some, length, not}
 use Rattle.station.specs.declared.peer_end.PeerEnd.TheVariants.{Behind}
 use Rattle.station.specs.Moves.{StationState, without_peer}
 use Rattle.station.specs.Peers.{peer_at}
@@ -10,12 +10,13 @@ use Rattle.station.specs.Reads.{end_at, owed_at}
 use Rattle.journal.specs.Stored.{StoredState}
 use Rattle.peer_connections.specs.declared.link.Channel.TheVariants.{Failed}
 use Rattle.peer_connections.specs.declared.link.Link.{Link}
+use Rattle.peer_connections.specs.Allowed.{IsSending}
 use Rattle.peer_connections.specs.Links.{ArePaired, has_link, has_peer}
 use Rattle.peer_connections.specs.Sending.{FailsAt, IsLetGo}
 use Rattle.peer_connections.specs.Streams.{GetsNoMore, HearsStream, SendsStream, known_at}
 use Rattle.peer_connections.specs.Streams.{known_of}
 use Rattle.peer_connections.proofs.Leaving.{left_gone}
-use Rattle.peer_connections.proofs.Pairing.{gone_link}
+use Rattle.peer_connections.proofs.Pairing.{gone_link, reach_same, sending_still}
 use Rattle.peer_connections.proofs.Sent.{set_there}
 use Rattle.peer_connections.proofs.Streaming.{heard_none, sent_none}
 
@@ -115,9 +116,13 @@ pub let_go_behind : {L : Type 0} (key : ℕ) (s : StationState) (links links' : 
     → end_at s key ≡ Some Behind → IsLetGo key s links links'
 let_go_behind key s links links' behind was gone = inl behind
 
+unowed : (octets : List ℕ) → not (length octets == 0) ≡ false → octets ≡ []
+unowed [] is = refl
+unowed (x ∷ octets) is = absurd (let never : true ≡ false = is in cc)
+
 pub let_go_unowed : {L : Type 0} (key : ℕ) (s : StationState) (links links' : List (Option L))
-    → owed_at s key ≡ [] → IsLetGo key s links links'
-let_go_unowed key s links links' none was gone = inr none
+    → not (length (owed_at s key) == 0) ≡ false → IsLetGo key s links links'
+let_go_unowed key s links links' none was gone = inr (unowed (owed_at s key) none)
 
 -- the station stays: whoever is there was
 pub still_there : {L : Type 0} (key : ℕ) (s t : StationState) (links links' : List (Option L))
@@ -126,6 +131,14 @@ pub still_there : {L : Type 0} (key : ℕ) (s t : StationState) (links links' : 
 still_there key s t links links' before after same there =
     before key ∙ sym (ap (λ (u : StationState). has_peer u.peers key) same) ∙ sym (after key)
     ∙ there
+
+-- .. and so was whoever is there behind what was sent
+pub was_there : {L : Type 0} (key : ℕ) (got got' : Option (List ℕ)) (links links' : List (Option L))
+    (s t : StoredState) → ArePaired links s.station.peers → ArePaired links' t.station.peers
+    → SendsStream key got got' s t → has_link links' key ≡ true → has_link links key ≡ true
+was_there key got got' links links' s t before after sent there =
+    before key ∙ sym (reach_same (IsSending key) (sending_still key) s t sent.moves key)
+    ∙ sym (after key) ∙ there
 
 pub let_go_then : {L : Type 0} (key : ℕ) (s t u : StationState) (a b c : List (Option L))
     → ArePaired b t.peers → ArePaired c u.peers → u ≡ t → IsLetGo key s a b → IsLetGo key s a c

@@ -1,10 +1,11 @@
 -- While no row is added, what is done for one peer leaves what another may be told.
 use Rattle.std.proofs.Common.{◌≡◌, ◌≢◌, ℕ, zero, suc, ◌+◌, ◌≤◌, ◌==◌, Bool, true, false, List}
 use Rattle.std.proofs.Common.{[], ◌∷◌, Option, Some, None, refl, ap, sym, subst, ◌∙◌, inl}
-use Rattle.std.proofs.Common.{inr, length, arith, drop, take, Result, Ok, Err}
+use Rattle.std.proofs.Common.{◌++◌, append_assoc, inr, length, arith, drop, take, Result, Ok, Err}
 use Rattle.std.proofs.lemmas.Bool.Decides.{nat_tests}
 use Rattle.std.proofs.lemmas.List.{drop_all, length-append, take_all}
-use Rattle.std.specs.Prelude.{◌⊎◌, if◌then◌else◌, is_none, slice_get, OnOk}
+use Rattle.std.specs.Io.KnownBytes.{Appends}
+use Rattle.std.specs.Prelude.{◌⊎◌, if◌then◌else◌, is_none, is_some, slice_get, OnOk}
 use Rattle.site_base.specs.declared.row.Row.{Row}
 use Rattle.site_book.specs.Book.{Book}
 use Rattle.station.specs.Moves.{StationState, admits_at, finish_at, free, rows_since, take_by}
@@ -14,6 +15,7 @@ use Rattle.station.specs.Reads.{owed_at, owed_to}
 use Rattle.station.specs.Runs.{Arrives, EndsRelease, Finishes, Forgets, Leaves, Loses, Move, Says}
 use Rattle.station.specs.Runs.{Takes, after, after_move}
 use Rattle.station.specs.Sessions.{Session, Turn, finish}
+use Rattle.devices.proofs.KnownBytes.{Appends-none, Appends-then}
 use Rattle.station.proofs.Keeping.{NoMore}
 use Rattle.station.proofs.Notices.{with_notices-none}
 use Rattle.station.proofs.Peers.{peer_at-other}
@@ -22,9 +24,11 @@ use Rattle.journal.specs.Stored.{JournalState, StoredState, has_stored, is_all_s
 use Rattle.peer_connections.specs.declared.link.Link.{Link}
 use Rattle.peer_connections.specs.Allowed.{IsClosing}
 use Rattle.peer_connections.specs.Due.{is_due}
-use Rattle.peer_connections.specs.Links.{OthersStay}
+use Rattle.peer_connections.specs.Links.{OthersStay, has_link}
 use Rattle.peer_connections.specs.Reaches.{AreAllowed, ReachesBy}
 use Rattle.peer_connections.specs.Sending.{AreSentTo, IsSentTo, StopsAt}
+use Rattle.peer_connections.specs.Streams.{AllContinue, Continues, SendsAndFollows, known_at}
+use Rattle.peer_connections.specs.Streams.{known_of}
 use Rattle.peer_connections.proofs.Sent.{told_none}
 
 -- ---- moves of one key
@@ -238,3 +242,93 @@ sent_by {S = S} due s links links' same sent =
 pub on_ok : {T E : Type 0} (r : Result T E) (P : Type 0) → P → OnOk r P
 on_ok (Ok a) P p = p
 on_ok (Err e) P p = tt
+
+-- ---- what connections got
+
+-- nothing yet
+pub continue_none : {S : Type 0} (got : S → Option (List ℕ)) (links : List (Option (Link S)))
+    (s : StoredState) → AllContinue got links links (λ k. told_at s k) s
+continue_none got links s k there = record {
+  sent = [];
+  written = Appends-none (known_at got links k);
+  rest = refl;
+}
+
+-- one of them is sent to
+pub continue_to : {S : Type 0} (got : S → Option (List ℕ)) (j : ℕ) (might : ℕ → List ℕ)
+    (links a b : List (Option (Link S))) (s t : StoredState) → SendsAndFollows got j a b s t
+    → ReachesBy (IsClosing j) s t → t.journal ≡ s.journal
+    → length t.station.book.rows ≡ length s.station.book.rows → OthersStay j a b
+    → AllContinue got links a might s → AllContinue got links b might t
+continue_to {S = S} got j might links a b s t sends by journal few stay before k there =
+    by_key (k == j) refl
+  where
+    this : has_link b j ≡ true → Continues got j links b (might j) (told_at t j)
+    this is =
+        let was = before j (sends.there is) in record {
+          sent = was.sent ++ sends.sends.sent;
+          written = subst (λ (u : Option (List ℕ)). Appends (known_at got links j) u
+              (was.sent ++ sends.sends.sent)) (sym (sends.no_more is))
+              (Appends-then (known_at got links j) (known_at got a j)
+              (known_at got sends.between j) was.sent sends.sends.sent was.written
+              sends.sends.written);
+          rest = was.rest ∙ ap (λ (l : List ℕ). was.sent ++ l) sends.sends.rest
+              ∙ sym (append_assoc was.sent sends.sends.sent (told_at sends.sent_to j))
+              ∙ ap (λ (u : StoredState). (was.sent ++ sends.sends.sent) ++ told_at u j)
+              (sym (sends.stays is));
+        }
+
+    another : k ≢ j → Continues got k links b (might k) (told_at t k)
+    another other =
+        let kept = stay.1 k other in
+        let was = before k (sym (ap is_some kept) ∙ there) in record {
+          sent = was.sent;
+          written = subst (λ (u : Option (List ℕ)). Appends (known_at got links k) u was.sent)
+              (sym (ap (known_of got) kept)) was.written;
+          rest = was.rest ∙ ap (λ (l : List ℕ). was.sent ++ l)
+              (sym (told_as k s t journal few ((spares j k s t by).same other few)));
+        }
+
+    by_key : (e : Bool) → (k == j) ≡ e → Continues got k links b (might k) (told_at t k)
+    by_key true is =
+        let at : k ≡ j = grind (arith, nat_tests) in
+        subst (λ (i : ℕ). Continues got i links b (might i) (told_at t i)) (sym at)
+        (this (subst (λ (i : ℕ). has_link b i ≡ true) at there))
+    by_key false is = another (grind (arith, nat_tests))
+
+-- each row was stored before, and is
+pub continue_stored : {S : Type 0} (got : S → Option (List ℕ)) (r s t u : StoredState)
+    (a b c d : List (Option (Link S))) → s.station ≡ r.station → is_all_stored s ≡ true → b ≡ a
+    → t.journal ≡ s.journal → length t.station.book.rows ≡ length s.station.book.rows
+    → u.station ≡ t.station → is_all_stored u ≡ true → d ≡ c
+    → AllContinue got b c (λ k. told_at s k) t
+    → AllContinue got a d (λ k. owed_at r.station k) u
+continue_stored {S = S} got r s t u a b c d first stored ab journal few last all cd each k there =
+    record {
+      sent = was.sent;
+      written = subst (λ (l : List (Option (Link S))). Appends (known_at got l k)
+          (known_at got d k) was.sent) ab
+          (subst (λ (l : List (Option (Link S))). Appends (known_at got b k) (known_at got l k)
+          was.sent) (sym cd) was.written);
+      rest = ap (λ (v : StationState). owed_at v k) (sym first)
+          ∙ sym (ap (λ (e : Bool). if e then owed_at s.station k else []) stored)
+          ∙ was.rest ∙ ap (λ (l : List ℕ). was.sent ++ l) still;
+    }
+  where
+    was : Continues got k b c (told_at s k) (told_at t k)
+    was = each k (subst (λ (l : List (Option (Link S))). has_link l k ≡ true) cd there)
+
+    stays : is_all_stored t ≡ true
+    stays =
+        ap (λ (j : Option JournalState). has_stored (length t.station.book.rows) j) journal
+        ∙ ap (λ (n : ℕ). has_stored n s.journal) few ∙ stored
+
+    still : told_at t k ≡ told_at u k
+    still =
+        ap (λ (e : Bool). if e then owed_at t.station k else []) stays
+        ∙ sym (ap (λ (v : StationState). owed_at v k) last)
+        ∙ sym (ap (λ (e : Bool). if e then owed_at u.station k else []) all)
+
+pub on_ok_then : {T E : Type 0} (r : Result T E) (Q P : Type 0) → (Q → P) → OnOk r Q → OnOk r P
+on_ok_then (Ok a) Q P then q = then q
+on_ok_then (Err e) Q P then q = tt

@@ -170,7 +170,7 @@ moves_same allowed still (m ∷ ms) s all =
     same_then s.peers next.peers (after ms next).peers (move_same m s (still m s all.0))
     (moves_same allowed still ms next all.1)
 
-reach_same : (allowed : Move → StationState → Type 0)
+pub reach_same : (allowed : Move → StationState → Type 0)
     (still : (m : Move) (s : StationState) → allowed m s → IsStill m) (s t : StoredState)
     → ReachesBy allowed s t → SameAreThere s.station.peers t.station.peers
 reach_same allowed still s t by k =
@@ -187,7 +187,7 @@ hearing_still k (Leaves j) s is = absurd is
 hearing_still k (EndsRelease on off p) s is = absurd is
 hearing_still k (Loses memory p) s is = absurd is
 
-sending_still : (k : ℕ) (m : Move) (s : StationState) → IsSending k m s → IsStill m
+pub sending_still : (k : ℕ) (m : Move) (s : StationState) → IsSending k m s → IsStill m
 sending_still k (Takes j n) s is = tt
 sending_still k (Says memory j octets) s is = absurd is
 sending_still k (Finishes j) s is = absurd is

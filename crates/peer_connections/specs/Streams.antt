@@ -62,4 +62,22 @@ pub record SendsAndFollows {S : Type 0} (got : S → Option (List ℕ)) (key : �
   pub sends : SendsStream key (known_at got links key) (known_at got between key) earlier sent_to
   pub follows : ReachesBy (IsClosing key) sent_to later
   pub no_more : GetsNoMore got key between links'
+  pub there : has_link links' key ≡ true → has_link links key ≡ true
+  pub stays : has_link links' key ≡ true → later ≡ sent_to
   pub let_go : FailsAt (get_or between key None) ⊎ IsLetGo key sent_to.station between links'
+
+-- ---- of all connections
+
+-- What the connection of a key got is the front of what its peer might be told, and it may still be
+-- told the rest.
+pub record Continues {S : Type 0} (got : S → Option (List ℕ)) (key : ℕ)
+    (links links' : List (Option (Link S))) (might may : List ℕ) : Type 0 where
+  pub sent : List ℕ
+  pub written : Appends (known_at got links key) (known_at got links' key) sent
+  pub rest : might ≡ sent ++ may
+
+-- .. of each that is still there
+abbrev pub AllContinue : {S : Type 0} → (S → Option (List ℕ)) → List (Option (Link S))
+    → List (Option (Link S)) → (ℕ → List ℕ) → StoredState → Type 0
+AllContinue got links links' might later =
+    (k : ℕ) → has_link links' k ≡ true → Continues got k links links' (might k) (told_at later k)

@@ -1,11 +1,11 @@
 //! Connections that close, since their sessions have ended.
 
-ghost use Rattle.std.specs.Prelude.{◌≡◌, Some, false};
+ghost use Rattle.std.specs.Prelude.{◌≡◌, Some, false, true};
 ghost use Rattle.station.specs.Moves.{without_peer};
 ghost use Rattle.station.specs.Reads.{end_at};
 ghost use Rattle.journal.specs.Stored.{with_station};
 ghost use Rattle.peer_connections.specs.Allowed.{IsClosing, lasts_at};
-ghost use Rattle.peer_connections.specs.Links.{OthersStay};
+ghost use Rattle.peer_connections.specs.Links.{OthersStay, has_link};
 ghost use Rattle.peer_connections.specs.Reaches.{ReachesBy};
 ghost use Rattle.peer_connections.specs.Sending.{IsLetGo, IsSentTo};
 ghost use Rattle.peer_connections.specs.Streams.{GetsNoMore};
@@ -82,6 +82,8 @@ impl<D: Disk, S: PeerSocket> Connections<D, S> {
         ensures journal { self.new.stored.journal ≡ self.old.stored.journal }
         ensures let_go { IsLetGo key self.old.stored.station self.old.links.items
             self.new.links.items }
+        ensures stays { has_link self.new.links.items key ≡ true
+            → self.new.stored ≡ self.old.stored }
         ensures got { GetsNoMore S.contents key self.old.links.items self.new.links.items }
         ensures due { self.new.due ≡ self.old.due }
     {

@@ -1,15 +1,17 @@
 //! The end of a round: its rows are stored, and whoever is due is sent what it is owed.
 
-ghost use Rattle.std.specs.Prelude.{◌≡◌, ◌<◌, ◌≤◌, ◌+◌, [], length, None, OnOk, Some};
-ghost use Rattle.std.specs.Prelude.{get_or, take, true};
+ghost use Rattle.std.specs.Prelude.{◌≡◌, ◌<◌, ◌≤◌, ◌+◌, ℕ, [], length, List, None, OnOk, Option};
+ghost use Rattle.std.specs.Prelude.{Some, get_or, take, true};
 ghost use Rattle.peer_connections.specs.declared.link.Channel.{Channel};
-ghost use Rattle.journal.specs.Stored.{is_all_stored};
+ghost use Rattle.peer_connections.specs.declared.link.Link.{Link};
+ghost use Rattle.station.specs.Reads.{owed_at};
+ghost use Rattle.journal.specs.Stored.{is_all_stored, told_at};
 ghost use Rattle.peer_connections.specs.Allowed.{IsClosing, IsFollowing, IsSending};
-ghost use Rattle.peer_connections.specs.Links.{OthersStay};
+ghost use Rattle.peer_connections.specs.Links.{OthersStay, has_link};
 ghost use Rattle.peer_connections.specs.Reaches.{ReachesBy};
 ghost use Rattle.peer_connections.specs.Sending.{AreSentTo, FailsAt, IsLetGo, IsSentTo};
-ghost use Rattle.peer_connections.specs.Streams.{GetsNoMore, SendsAndFollows, SendsStream};
-ghost use Rattle.peer_connections.specs.Streams.{known_at};
+ghost use Rattle.peer_connections.specs.Streams.{AllContinue, GetsNoMore, SendsAndFollows};
+ghost use Rattle.peer_connections.specs.Streams.{SendsStream, known_at};
 
 use crate::connections::Connections;
 use crate::link::Channel;
@@ -37,6 +39,10 @@ impl<D: Disk, S: PeerSocket> Connections<D, S> {
         ensures sent { OnOk result (length self.new.stored.station.book.rows
             ≡ length self.old.stored.station.book.rows
             → AreSentTo self.old.due self.new.stored self.new.links.items) }
+        ensures streams { OnOk result (length self.new.stored.station.book.rows
+            ≡ length self.old.stored.station.book.rows
+            → AllContinue S.contents self.old.links.items self.new.links.items
+                (λ k. owed_at self.old.stored.station k) self.new.stored) }
     {
         self.store()?;
         self.send_each(registry, rt, now);
@@ -56,6 +62,10 @@ impl<D: Disk, S: PeerSocket> Connections<D, S> {
         ensures sent { length self.new.stored.station.book.rows
             ≡ length self.old.stored.station.book.rows
             → AreSentTo self.old.due self.new.stored self.new.links.items }
+        ensures streams { length self.new.stored.station.book.rows
+            ≡ length self.old.stored.station.book.rows
+            → AllContinue S.contents self.old.links.items self.new.links.items
+                (λ k. told_at self.old.stored k) self.new.stored }
     {
         for at in 0..self.due.len() {
             self.send_at(registry, rt, at, now);
@@ -76,6 +86,11 @@ impl<D: Disk, S: PeerSocket> Connections<D, S> {
             ≡ length self.old.stored.station.book.rows
             → AreSentTo (take at self.old.due) self.old.stored self.old.links.items
             → AreSentTo (take (at + 1) self.new.due) self.new.stored self.new.links.items }
+        ensures streams { length self.new.stored.station.book.rows
+            ≡ length self.old.stored.station.book.rows
+            → (links : List (Option (Link S))) (might : ℕ → List ℕ)
+            → AllContinue S.contents links self.old.links.items might self.old.stored
+            → AllContinue S.contents links self.new.links.items might self.new.stored }
     {
         match self.due.get(at) {
             Some(key) => self.send_owed(registry, rt, key, now),
@@ -140,6 +155,8 @@ impl<D: Disk, S: PeerSocket> Connections<D, S> {
         ensures journal { self.new.stored.journal ≡ self.old.stored.journal }
         ensures let_go { IsLetGo key self.old.stored.station self.old.links.items
             self.new.links.items }
+        ensures stays { has_link self.new.links.items key ≡ true
+            → self.new.stored ≡ self.old.stored }
         ensures got { GetsNoMore S.contents key self.old.links.items self.new.links.items }
         ensures due { self.new.due ≡ self.old.due }
     {

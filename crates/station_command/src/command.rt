@@ -18,7 +18,7 @@ use day_base::{DayFault, HousePlan, OptionFault, ReportForm, StationPlan, exit_d
 use devices::Counted;
 use history_files::HistoryDisk;
 use journal::Opened;
-use peer_connections::{Connections, Patience};
+use peer_connections::{Connections, Patience, PeerStream};
 use program_io::{COMMAND_LINE, FAULT, TURNS, exit_with};
 use site_base::{SiteConfig, TillNo};
 use station_days::{station_day, to_day_fault};
@@ -215,7 +215,7 @@ fn serve_peers<R: StationHost, T: Threads + Wait + Sync, I: Read + Send + Drop +
     threads: &T,
     input: I,
     found: FoundHistory,
-    connections: &mut Connections<HistoryDisk<'_, R>>,
+    connections: &mut Connections<HistoryDisk<'_, R>, PeerStream>,
     doors: Doors,
     plans: Plans,
     options: StationOptions<'_>,
@@ -252,7 +252,7 @@ fn serve_until_end<R: StationHost, T: Threads + Wait + Sync, I: Read + Send + Dr
     threads: &T,
     input: I,
     found: FoundHistory,
-    connections: &mut Connections<HistoryDisk<'_, R>>,
+    connections: &mut Connections<HistoryDisk<'_, R>, PeerStream>,
     server: &mut StationServer,
     plans: Plans,
     options: StationOptions<'_>,
@@ -299,7 +299,7 @@ fn serve_day<R: StationHost, T: Wait>(
     reporting: &Reporting<'_, R>,
     threads: &T,
     found: FoundHistory,
-    connections: &mut Connections<HistoryDisk<'_, R>>,
+    connections: &mut Connections<HistoryDisk<'_, R>, PeerStream>,
     server: &mut StationServer,
     idle: Option<u64>,
     json: bool,

@@ -1,6 +1,6 @@
 use Rattle.std.proofs.Common.{sym, ◌∙◌, subst, List, ℕ, take, ◌+◌}
 use Rattle.peer_connections.specs.Sending.{AreSentTo}
-use Rattle.peer_connections.proofs.Others.{rows_stay, sent_up_to}
+use Rattle.peer_connections.proofs.Others.{continue_to, rows_stay, sent_up_to}
 use Rattle.peer_connections.proofs.Reaching.{reaches_following}
 use Rattle.peer_connections.proofs.connections.Connections.send_at.Goals as goal
 
@@ -17,3 +17,8 @@ returns-in-Some-clause-sent g c = λ few before.
     (sent_up_to c.args.at c.in-Some.key c.args.self.now.due _ _ _ _
     (sym c.get.ensures ∙ c.in-Some.is) c.send_owed.ensures.moves c.send_owed.ensures.journal
     few c.send_owed.ensures.others c.send_owed.ensures.sent before)
+
+pub returns-in-Some-clause-streams : goal.returns-in-Some-clause-streams
+returns-in-Some-clause-streams g c = λ few links might.
+    continue_to _ c.in-Some.key might links _ _ _ _ c.send_owed.ensures.stream
+    c.send_owed.ensures.moves c.send_owed.ensures.journal few c.send_owed.ensures.others

@@ -1,7 +1,7 @@
 use Rattle.std.proofs.Common.{ap, ◌∙◌, subst, sym, ◌≡◌, List, length, ℕ}
 use Rattle.station.specs.Moves.{StationState}
 use Rattle.peer_connections.specs.Sending.{AreSentTo}
-use Rattle.peer_connections.proofs.Others.{on_ok, sent_by, sent_stored}
+use Rattle.peer_connections.proofs.Others.{continue_stored, on_ok, on_ok_then, sent_by, sent_stored}
 use Rattle.peer_connections.proofs.Reaching.{reaches_kept, reaches_then}
 use Rattle.peer_connections.proofs.connections.Connections.send_due.Goals as goal
 
@@ -29,3 +29,19 @@ returns-clause-sent g c =
     (sent_stored c.args.self.now.due c.store.new.self.stored c.send_each.new.self.stored
     c.store_and_end.new.self.stored _ c.in_ok-store.ensures.stored c.send_each.ensures.journal
     same c.store_and_end.ensures.station each))
+
+-- each connection goes on with what its peer is owed
+pub returns-clause-streams : goal.returns-clause-streams
+returns-clause-streams g c =
+    on_ok_then c.store_and_end.result _ _
+    (λ all few.
+    let same : length c.send_each.new.self.stored.station.book.rows
+    ≡ length c.store.new.self.stored.station.book.rows =
+    sym (ap (λ (s : StationState). length s.book.rows) c.store_and_end.ensures.station) ∙ few
+    ∙ sym (ap (λ (s : StationState). length s.book.rows) c.store.ensures.station) in
+    continue_stored _ c.args.self.now.stored c.store.new.self.stored c.send_each.new.self.stored
+    c.store_and_end.new.self.stored _ _ _ _ c.store.ensures.station
+    c.in_ok-store.ensures.stored (ap (λ x. x.items) c.store.ensures.links)
+    c.send_each.ensures.journal same c.store_and_end.ensures.station
+    all (ap (λ x. x.items) c.store_and_end.ensures.links) (c.send_each.ensures.streams same))
+    c.store_and_end.ensures.stored

@@ -1,7 +1,9 @@
 use Rattle.std.proofs.Common.{◌≡◌, ◌≤◌, length, take}
+use Rattle.journal.specs.Stored.{told_at}
 use Rattle.peer_connections.specs.Allowed.{IsFollowing}
 use Rattle.peer_connections.specs.Reaches.{ReachesBy}
 use Rattle.peer_connections.specs.Sending.{AreSentTo}
+use Rattle.peer_connections.specs.Streams.{AllContinue}
 use Rattle.peer_connections.proofs.connections.Connections.send_each.Given as goal
 
 abbrev pub invariant-loop-at : goal.invariant-loop-at
@@ -12,4 +14,7 @@ invariant-loop-at g l = record {
   due : l.self.due ≡ l.fn.self.due;
   sent : length l.self.stored.station.book.rows ≡ length l.fn.self.stored.station.book.rows
       → AreSentTo (take l.at l.self.due) l.self.stored l.self.links.items;
+  streams : length l.self.stored.station.book.rows ≡ length l.fn.self.stored.station.book.rows
+      → AllContinue g.S.Write.contents l.fn.self.links.items l.self.links.items
+      (λ k. told_at l.fn.self.stored k) l.self.stored;
 }

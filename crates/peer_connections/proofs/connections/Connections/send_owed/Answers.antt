@@ -1,8 +1,9 @@
-use Rattle.std.proofs.Common.{ap, inl, inr, refl, ◌∙◌}
+use Rattle.std.proofs.Common.{◌≡◌, ap, inl, inr, refl, true, ◌∙◌}
 use Rattle.journal.specs.Stored.{StoredState}
 use Rattle.peer_connections.specs.Allowed.{lasts_at}
+use Rattle.peer_connections.specs.Links.{has_link}
 use Rattle.peer_connections.proofs.Known.{gone_there, let_go_not, let_go_then, no_more_same}
-use Rattle.peer_connections.proofs.Known.{no_more_then, still_there}
+use Rattle.peer_connections.proofs.Known.{no_more_then, still_there, was_there}
 use Rattle.peer_connections.proofs.Linking.{others_then}
 use Rattle.peer_connections.proofs.Reaching.{finished_at, over_at, reaches_closing}
 use Rattle.peer_connections.proofs.Reaching.{reaches_finished}
@@ -31,21 +32,31 @@ returns-in-Some-Failed-clause-moves g c =
 
 -- .. else it follows its session
 pub returns-in-Some : goal.returns-in-Some
-returns-in-Some g c = record {
+returns-in-Some g c =
+    let same = ap (λ (s : StoredState). s.station) c.report_again.ensures.stored in
+    let was : has_link c.report_again.new.self.links.items c.args.key ≡ true
+    → has_link c.follow_session.new.self.links.items c.args.key ≡ true =
+    still_there c.args.key c.follow_session.new.self.stored.station
+    c.report_again.new.self.stored.station _ _ c.follow_session.new.self.paired
+    c.report_again.new.self.paired same in record {
   stream = record {
     sent_to = c.send_link.new.self.stored;
     between = c.send_link.new.self.links.items;
     sends = c.send_link.ensures.stream;
     follows = reaches_then _ _ _ _ c.follow_session.ensures.moves
         (reaches_same _ _ _ c.report_again.ensures.stored);
-    no_more = no_more_then _ _ _ _ _ (still_there c.args.key
-        c.follow_session.new.self.stored.station _ _ _
-        c.follow_session.new.self.paired c.report_again.new.self.paired
-        (ap (λ (s : StoredState). s.station) c.report_again.ensures.stored))
-        c.follow_session.ensures.got c.report_again.ensures.got;
+    no_more = no_more_then _ _ _ _ _ was c.follow_session.ensures.got
+        c.report_again.ensures.got;
+    there = λ is. was_there c.args.key _ _ _ _ c.args.self.now.stored _
+        c.args.self.now.paired c.send_link.new.self.paired c.send_link.ensures.stream
+        (still_there c.args.key c.send_link.new.self.stored.station
+        c.follow_session.new.self.stored.station _ _ c.send_link.new.self.paired
+        c.follow_session.new.self.paired
+        (ap (λ (s : StoredState). s.station) (c.follow_session.ensures.stays (was is)))
+        (was is));
+    stays = λ is. c.report_again.ensures.stored ∙ c.follow_session.ensures.stays (was is);
     let_go = inr (let_go_then c.args.key _ c.follow_session.new.self.stored.station _ _ _ _
-        c.follow_session.new.self.paired c.report_again.new.self.paired
-        (ap (λ (s : StoredState). s.station) c.report_again.ensures.stored)
+        c.follow_session.new.self.paired c.report_again.new.self.paired same
         c.follow_session.ensures.let_go);
   };
   moves = reaches_then _ _ _ _ (reaches_closing _ _ _ c.send_link.ensures.moves)
@@ -72,7 +83,11 @@ returns-in-Some-Failed-clause-stream g c = record {
       (c.begin_to_close.ensures.stored ∙ c.finish.ensures)
       ∙ finished_at c.args.key _)
       c.remove.ensures.left));
-  no_more = λ there. absurd (gone_there c.args.key c.begin_to_close.new.self.stored.station _ _ _
+  no_more = λ there. absurd (gone_there c.args.key c.begin_to_close.new.self.stored.station _ _
+      c.remove.new.self.paired (ap (λ (s : StoredState). s.station) c.remove.ensures.left) there);
+  there = λ there. absurd (gone_there c.args.key c.begin_to_close.new.self.stored.station _ _
+      c.remove.new.self.paired (ap (λ (s : StoredState). s.station) c.remove.ensures.left) there);
+  stays = λ there. absurd (gone_there c.args.key c.begin_to_close.new.self.stored.station _ _
       c.remove.new.self.paired (ap (λ (s : StoredState). s.station) c.remove.ensures.left) there);
   let_go = inl (c.send_link.ensures.failed c.in-Some-Failed.is);
 }
@@ -85,6 +100,9 @@ returns-in-None-clause-stream g c = record {
   sends = c.send_link.ensures.stream;
   follows = reaches_same _ _ _ refl;
   no_more = no_more_same _ _ _ _ refl;
+  there = was_there c.args.key _ _ _ _ c.args.self.now.stored _ c.args.self.now.paired
+      c.send_link.new.self.paired c.send_link.ensures.stream;
+  stays = λ is. refl;
   let_go = inr (let_go_not c.args.key c.send_link.new.self.stored.station _ _ _
       c.send_link.new.self.paired c.send_link.new.self.paired refl);
 }
