@@ -292,7 +292,7 @@ all_noted watch place b has seen stays before all (inl had) = stays had
 all_noted watch place b has seen stays before all (inr new) =
     let within = there_within b.rows new.at new.row new.there in
     before new.at new.row new.since (omega (arith, all, within))
-    (omega (arith, seen.0, new.since)) new.there new.changing
+    (omega (arith, seen.each, new.since)) new.there new.changing
 
 pub ruleset marked = (
   room,

@@ -1,6 +1,7 @@
 -- What is known of a key's own connection, as something is done with it.
 use Rattle.std.proofs.Common.{◌≡◌, ℕ, true, false, List, Option, Some, None, get_or, ap, sym}
-use Rattle.std.proofs.Common.{[], ◌∷◌, ◌∙◌, inl, inr, refl, subst}
+use Rattle.std.proofs.Common.{[], ◌∷◌, ◌∙◌, Bool, arith, inl, inr, refl, suc, subst}
+use Rattle.std.proofs.lemmas.Bool.Decides.{nat_tests}
 use Rattle.std.proofs.Math.ListN.{set}
 use Rattle.std.specs.Prelude.{◌==◌, is_some, length, not}
 use Rattle.station.specs.declared.peer_end.PeerEnd.TheVariants.{Behind}
@@ -16,6 +17,7 @@ use Rattle.peer_connections.specs.Sending.{FailsAt, IsLetGo}
 use Rattle.peer_connections.specs.Streams.{GetsNoMore, HearsStream, SendsStream, known_at}
 use Rattle.peer_connections.specs.Streams.{known_of}
 use Rattle.peer_connections.proofs.Leaving.{left_gone}
+use Rattle.peer_connections.proofs.Linking.{others_same, others_set}
 use Rattle.peer_connections.proofs.Pairing.{gone_link, reach_same, sending_still}
 use Rattle.peer_connections.proofs.Sent.{set_there}
 use Rattle.peer_connections.proofs.Streaming.{heard_none, sent_none}
@@ -84,6 +86,17 @@ heard_nobody left key links links' s t same stays =
     heard_none key (known_at left links key) (known_at left links' key) s t
     (ap (λ (l : List (Option (Link _))). known_at left l key) same) stays
 
+-- .. and nothing else is changed
+pub heard_kept : {S : Type 0} (left : S → Option (List ℕ)) (key : ℕ)
+    (a b c : List (Option (Link S))) (s t u : StoredState) → c ≡ b → u ≡ t
+    → HearsStream key (known_at left a key) (known_at left b key) s t
+    → HearsStream key (known_at left a key) (known_at left c key) s u
+heard_kept {S = S} left key a b c s t u same stays heard =
+    subst (λ (l : List (Option (Link S))). HearsStream key (known_at left a key)
+    (known_at left l key) s u) (sym same)
+    (subst (λ (v : StoredState). HearsStream key (known_at left a key) (known_at left b key) s v)
+    (sym stays) heard)
+
 pub sent_there : {S : Type 0} (got : S → Option (List ℕ)) (key : ℕ)
     (links : List (Option (Link S))) (old link : Link S) (s t : StoredState)
     → get_or links key None ≡ Some old
@@ -118,7 +131,13 @@ let_go_behind key s links links' behind was gone = inl behind
 
 unowed : (octets : List ℕ) → not (length octets == 0) ≡ false → octets ≡ []
 unowed [] is = refl
-unowed (x ∷ octets) is = absurd (let never : true ≡ false = is in cc)
+unowed (x ∷ octets) is = by_test (length (x ∷ octets) == 0) refl is
+  where
+    by_test : (b : Bool) → (length (x ∷ octets) == 0) ≡ b → not b ≡ false → x ∷ octets ≡ []
+    by_test true zero_long owes =
+        let long : length (x ∷ octets) ≡ 0 = grind (arith, nat_tests) in
+        absurd (let no : suc (length octets) ≡ 0 = long in omega (arith, no))
+    by_test false some owes = absurd (let never : true ≡ false = owes in cc)
 
 pub let_go_unowed : {L : Type 0} (key : ℕ) (s : StationState) (links links' : List (Option L))
     → not (length (owed_at s key) == 0) ≡ false → IsLetGo key s links links'
@@ -161,6 +180,14 @@ pub fails_there : {S : Type 0} (key : ℕ) (links : List (Option (Link S))) (old
 fails_there {S = S} key links old link is failed =
     subst (λ (l : Option (Link S)). FailsAt l) (sym (set_there key links old link is)) failed
 
+-- a peer that is heard
+pub ruleset heard = (
+  others_same,
+  others_set,
+  heard_kept,
+)
+
+-- .. and what else is done with a connection
 pub ruleset known = (
   no_more_same,
   no_more_set,

@@ -330,5 +330,5 @@ continue_stored {S = S} got r s t u a b c d first stored ab journal few last all
         ∙ sym (ap (λ (e : Bool). if e then owed_at u.station k else []) all)
 
 pub on_ok_then : {T E : Type 0} (r : Result T E) (Q P : Type 0) → (Q → P) → OnOk r Q → OnOk r P
-on_ok_then (Ok a) Q P then q = then q
-on_ok_then (Err e) Q P then q = tt
+on_ok_then (Ok a) Q P leads q = leads q
+on_ok_then (Err e) Q P leads q = tt

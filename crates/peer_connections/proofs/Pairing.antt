@@ -328,6 +328,14 @@ paired_left key links s paired k =
     ∙ ap (λ (there : Bool). if key == k then false else there) (paired k)
     ∙ sym (left_peer key k s)
 
+-- .. of a station with its journal
+pub paired_gone : {L : Type 0} (key : ℕ) (links : List (Option L)) (s t : StoredState)
+    → t ≡ with_station (without_peer key s.station) s → ArePaired links s.station.peers
+    → ArePaired (set links key None) t.station.peers
+paired_gone key links s t left paired =
+    subst (λ (u : StoredState). ArePaired (set links key None) u.station.peers) (sym left)
+    (paired_left key links s.station paired)
+
 -- .. where there is none
 set_beyond : {L : Type 0} (key : ℕ) (links : List (Option L)) → length links ≤ key
     → set links key None ≡ links

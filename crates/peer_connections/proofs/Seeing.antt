@@ -2,9 +2,8 @@
 use Rattle.std.proofs.Common.{◌≡◌, ◌≤◌, ℕ, Bool, true, false, List, [], ◌∷◌, Option, Some, None}
 use Rattle.std.proofs.Common.{ap, arith, inl, inr, length, refl, subst, sym, ◌∙◌}
 use Rattle.std.proofs.lemmas.List.{length-append}
-use Rattle.std.specs.Prelude.{if◌then◌else◌, nat_le, slice_get}
+use Rattle.std.specs.Prelude.{if◌then◌else◌, slice_get}
 use Rattle.site_book.specs.Book.{Book, with_rows_forgotten}
-use Rattle.site_book.specs.declared.book.TheConstants.{FORGOTTEN_ROWS}
 use Rattle.station.specs.Moves.{StationState, end_release, lose, with_end, without_old_rows}
 use Rattle.station.specs.Moves.{without_peer}
 use Rattle.station.specs.Reads.{Arrives as GetsKey, ArrivesAt, arrives_at}
@@ -29,7 +28,7 @@ seen_move : (n : ℕ) (m : Move) (s : StationState) → (m ≡ Forgets → ⊥) 
 seen_move n m s other seen =
     let adds : Adds s.book (after_move m s).book = move_adds m s other in
     let long = ap length adds.rows ∙ length-append s.book.rows adds.later in
-    (omega (arith, seen.0, adds.memory), omega (arith, seen.1, long))
+    record { each = omega (arith, seen.each, adds.memory); those = omega (arith, seen.those, long) }
 
 -- .. where the station comes to that
 seen_moved : (n : ℕ) (m : Move) (s t : StationState) → (m ≡ Forgets → ⊥) → t ≡ after_move m s
@@ -131,18 +130,18 @@ seen_linked n k s t (inr left) seen = seen_left n k s t left seen
 -- each row was looked at, and then all are forgotten
 seen_forgotten : (n : ℕ) (b : Book) → n ≡ length b.rows → b.forgotten ≤ n
     → HasSeen n (with_rows_forgotten b)
-seen_forgotten n b all behind = by_count (nat_le (length b.rows) FORGOTTEN_ROWS)
+seen_forgotten n b all behind = by_count _
   where
     by_count : (few : Bool)
         → HasSeen n (if few then record b { forgotten = length b.rows } else b)
-    by_count true = (omega (arith, all), omega (arith, all))
-    by_count false = (behind, omega (arith, all))
+    by_count true = record { each = omega (arith, all); those = omega (arith, all) }
+    by_count false = record { each = behind; those = omega (arith, all) }
 
 pub seen_room : (n : ℕ) (s t : StationState) → IsSameOrForgets s t → n ≡ length s.book.rows
     → s.book.forgotten ≤ n → HasSeen n t.book
 seen_room n s t (inl same) all behind =
     subst (λ (u : StationState). HasSeen n u.book) (sym same)
-    (behind, let long : n ≤ length s.book.rows = omega (arith, all) in long)
+    (record { each = behind; those = omega (arith, all) })
 seen_room n s t (inr forgets) all behind =
     subst (λ (u : StationState). HasSeen n u.book) (sym forgets)
     (seen_forgotten n s.book all behind)

@@ -15,8 +15,9 @@ use Rattle.peer_connections.specs.Due.{is_due}
 use Rattle.peer_connections.specs.Links.{has_link}
 
 -- so many rows were looked at: each one that is forgotten, and none that isn't there
-abbrev pub HasSeen : ℕ → Book → Type 0
-HasSeen seen b = (b.forgotten ≤ seen) × (seen ≤ length b.rows)
+pub record HasSeen (seen : ℕ) (b : Book) : Type 0 where
+  pub each : b.forgotten ≤ seen
+  pub those : seen ≤ length b.rows
 
 -- a row at this place, or behind it, that a dispenser is told of
 pub record HasChangeFrom (place : ℕ) (b : Book) : Type 0 where

@@ -15,7 +15,7 @@ impl<D: Disk, S: PeerSocket> Connections<D, S> {
     /// A peer has sent something, or hung up. With `to_wait` it is read until its connection waits,
     /// as `Link::hear` says. Where the station's book can't be given room for what it sent, it
     /// isn't read from.
-    #[tactic(auto, using(crate::proofs::Reaching::moved, crate::proofs::Linking::kept))]
+    #[tactic(auto, using(crate::proofs::Reaching::moved, crate::proofs::Known::heard))]
     pub fn hear(&mut self, key: usize, to_wait: bool, now: Instant) -> Result<(), DiskFault>
         ensures moves { ReachesBy (IsHearing key) self.old.stored self.new.stored }
         ensures stream { lasts_at self.old.stored.station key ≡ true
@@ -25,15 +25,25 @@ impl<D: Disk, S: PeerSocket> Connections<D, S> {
         ensures due { self.new.due ≡ self.old.due }
     {
         if self.hear_link(key, to_wait, now)? {
-            if let Some(until) = self.held_until(key) {
-                self.note_hold(until);
-            }
-            if !self.stored.is_read(key) {
-                self.may_wait = true;
-            }
-            self.note_dispenser(key);
+            self.note_heard(key);
         }
         Ok(())
+    }
+
+    /// The station may have heard a peer: whether it is held back, or isn't read from, and whether
+    /// a dispenser is there.
+    fn note_heard(&mut self, key: usize)
+        ensures stored { self.new.stored ≡ self.old.stored }
+        ensures links { self.new.links ≡ self.old.links }
+        ensures due { self.new.due ≡ self.old.due }
+    {
+        if let Some(until) = self.held_until(key) {
+            self.note_hold(until);
+        }
+        if !self.stored.is_read(key) {
+            self.may_wait = true;
+        }
+        self.note_dispenser(key);
     }
 
     /// A peer's connection is read, and the station hears it, unless it is held back. Where its

@@ -1,21 +1,23 @@
-use Rattle.std.proofs.Common.{rules}
+use Rattle.std.proofs.Common.{ap, rules}
 use Rattle.peer_connections.proofs.Pairing.{paired_none}
-use Rattle.peer_connections.proofs.Reaching.{reaches_then, reaches_unlinked}
+use Rattle.peer_connections.proofs.Reaching.{reaches_same, reaches_then, reaches_unlinked}
 use Rattle.peer_connections.proofs.connections.Connections.arrive.Goals as goal
+use Rattle.peer_connections.proofs.connections.Connections.arrive.Goals.{else-set_link, then-set_link}
 
 -- it gets no place
 pub invariant_of-self-clause-paired : goal.invariant_of-self-clause-paired
 invariant_of-self-clause-paired g c =
     paired_none _ _ _ _ c.in-Ok-None.field-0-is c.args.self.now.paired c.in-Ok-None.ensures.came
 
--- it has a connection
-pub returns-then-set_link : goal.returns-then-set_link
-returns-then-set_link g c =
-    reaches_then _ _ _ _ c.arrive_in.ensures.moves
-    (reaches_unlinked _ c.in-Ok-Some.key _ _ (search rules) (search rules) c.set_link.ensures.left)
-
--- .. or leaves
-pub returns-else-set_link : goal.returns-else-set_link
-returns-else-set_link g c =
-    reaches_then _ _ _ _ c.arrive_in.ensures.moves
-    (reaches_unlinked _ c.in-Ok-Some.key _ _ (search rules) (search rules) c.set_link.ensures.left)
+-- it has a connection, or leaves
+pub returns-after-set_link : goal.returns-after-set_link
+returns-after-set_link g c =
+    let comes = reaches_then _ _ _ _ c.arrive_in.ensures.moves
+    (reaches_unlinked c.args.door c.in-Ok-Some.key _ _ (search rules) (search rules)
+    c.set_link.ensures.left) in
+    elim c.if-set_link.branch [
+      | then-set_link w ↦ reaches_then _ _ _ _ comes
+          (reaches_same _ _ _ (ap (λ x. x.stored) w.self-is))
+      | else-set_link w ↦ reaches_then _ _ _ _ comes
+          (reaches_same _ _ _ (ap (λ x. x.stored) w.self-is))
+    ]

@@ -1,6 +1,6 @@
 use Rattle.std.proofs.Common.{arith, take, List, ◌∙◌, subst, ℕ}
 use Rattle.peer_connections.specs.Sending.{AreSentTo}
-use Rattle.peer_connections.proofs.Others.{all_sent, continue_none}
+use Rattle.peer_connections.proofs.Others.{all_sent}
 use Rattle.peer_connections.proofs.Reaching.{reaches_then}
 use Rattle.peer_connections.proofs.connections.Connections.send_each.Goals as goal
 
@@ -21,10 +21,6 @@ loop-at-preserved g c = record {
       (c.loop-at.invariant.streams
       (omega (arith, few, c.loop-at.invariant.rows, c.send_at.ensures.rows)));
 }
-
--- nothing was sent yet
-pub loop-at-initial-clause-streams : goal.loop-at-initial-clause-streams
-loop-at-initial-clause-streams g c = λ few. continue_none _ _ c.args.self.now.stored
 
 pub returns-clause-sent : goal.returns-clause-sent
 returns-clause-sent g c = λ few.

@@ -1,4 +1,4 @@
-use Rattle.std.proofs.Common.{◌≡◌, ap, inl, inr, refl, true, ◌∙◌}
+use Rattle.std.proofs.Common.{◌≡◌, Some, ap, inl, inr, refl, true, ◌∙◌}
 use Rattle.journal.specs.Stored.{StoredState}
 use Rattle.peer_connections.specs.Allowed.{lasts_at}
 use Rattle.peer_connections.specs.Links.{has_link}
@@ -8,6 +8,8 @@ use Rattle.peer_connections.proofs.Linking.{others_then}
 use Rattle.peer_connections.proofs.Reaching.{finished_at, over_at, reaches_closing}
 use Rattle.peer_connections.proofs.Reaching.{reaches_finished}
 use Rattle.peer_connections.proofs.Reaching.{reaches_gone, reaches_same, reaches_then}
+use Rattle.peer_connections.proofs.Pairing.{paired_ended}
+use Rattle.peer_connections.proofs.Seeing.{seen_ended}
 use Rattle.peer_connections.proofs.connections.Connections.send_owed.Goals as goal
 
 -- its session has ended before its connection closes
@@ -45,7 +47,8 @@ returns-in-Some g c =
     sends = c.send_link.ensures.stream;
     follows = reaches_then _ _ _ _ c.follow_session.ensures.moves
         (reaches_same _ _ _ c.report_again.ensures.stored);
-    no_more = no_more_then _ _ _ _ _ was c.follow_session.ensures.got
+    no_more = no_more_then g.S.Write.contents c.args.key c.send_link.new.self.links.items
+        c.follow_session.new.self.links.items c.report_again.new.self.links.items was c.follow_session.ensures.got
         c.report_again.ensures.got;
     there = λ is. was_there c.args.key _ _ _ _ c.args.self.now.stored _
         c.args.self.now.paired c.send_link.new.self.paired c.send_link.ensures.stream
@@ -55,7 +58,8 @@ returns-in-Some g c =
         (ap (λ (s : StoredState). s.station) (c.follow_session.ensures.stays (was is)))
         (was is));
     stays = λ is. c.report_again.ensures.stored ∙ c.follow_session.ensures.stays (was is);
-    let_go = inr (let_go_then c.args.key _ c.follow_session.new.self.stored.station _ _ _ _
+    let_go = inr (let_go_then c.args.key c.send_link.new.self.stored.station
+        c.follow_session.new.self.stored.station c.report_again.new.self.stored.station _ _ _
         c.follow_session.new.self.paired c.report_again.new.self.paired same
         c.follow_session.ensures.let_go);
   };
@@ -89,7 +93,7 @@ returns-in-Some-Failed-clause-stream g c = record {
       c.remove.new.self.paired (ap (λ (s : StoredState). s.station) c.remove.ensures.left) there);
   stays = λ there. absurd (gone_there c.args.key c.begin_to_close.new.self.stored.station _ _
       c.remove.new.self.paired (ap (λ (s : StoredState). s.station) c.remove.ensures.left) there);
-  let_go = inl (c.send_link.ensures.failed c.in-Some-Failed.is);
+  let_go = inl (c.send_link.ensures.failed (c.in-Some-Failed.is ∙ ap Some c.in-Some-Failed.field-0-is));
 }
 
 -- nobody is there
@@ -99,10 +103,21 @@ returns-in-None-clause-stream g c = record {
   between = c.send_link.new.self.links.items;
   sends = c.send_link.ensures.stream;
   follows = reaches_same _ _ _ refl;
-  no_more = no_more_same _ _ _ _ refl;
+  no_more = no_more_same g.S.Write.contents c.args.key c.send_link.new.self.links.items
+      c.send_link.new.self.links.items refl;
   there = was_there c.args.key _ _ _ _ c.args.self.now.stored _ c.args.self.now.paired
       c.send_link.new.self.paired c.send_link.ensures.stream;
   stays = λ is. refl;
   let_go = inr (let_go_not c.args.key c.send_link.new.self.stored.station _ _ _
       c.send_link.new.self.paired c.send_link.new.self.paired refl);
 }
+
+pub invariant_of-self-clause-seen : goal.invariant_of-self-clause-seen
+invariant_of-self-clause-seen g c =
+    seen_ended _ c.args.key c.send_link.new.self.stored _ c.finish.ensures
+    c.send_link.new.self.seen
+
+pub invariant_of-self-clause-paired : goal.invariant_of-self-clause-paired
+invariant_of-self-clause-paired g c =
+    paired_ended c.args.key c.send_link.new.self.links.items c.send_link.new.self.stored _
+    c.finish.ensures c.send_link.new.self.paired
