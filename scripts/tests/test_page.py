@@ -15,6 +15,7 @@ import json
 import pathlib
 import re
 import select
+import shutil
 import signal
 import socket
 import statistics
@@ -556,6 +557,87 @@ def the_last_seal():
         found = run(PROGRAM, "verify", folder, "--seal", seal)
         said = f"seal {seal} is that of chapter "
         expect("verify", (found.status, said in found.out.decode()), (0, True))
+
+
+@test
+def what_is_unpaid():
+    """`/unpaid` lists the unpaid transactions as `site.json` does, of a point if it is asked for;
+    another query is refused."""
+    with start_page() as page:
+        expect("none", read_json(page, "/unpaid"), [])
+        for point, nozzle in ((1, 1), (2, 2)):
+            page.tell(command_point(1, 0, point, OPEN), report(point, 0, LIFT, 0, nozzle),
+                      command_point(1, 0, point, RELEASE),
+                      report(point, 0, FLOW, 1_000, nozzle),
+                      report(point, 0, HANG_UP, 10_000, nozzle))  # fmt: skip
+        sales = page.site()["transactions"]
+        expect("their points", [sale["point"] for sale in sales], [1, 2])
+        expect("all", read_json(page, "/unpaid"), sales)
+        for point in (1, 2):
+            wanted = [sale for sale in sales if sale["point"] == point]
+            expect(f"of point {point}", read_json(page, f"/unpaid?point={point}"), wanted)
+        expect("of one without any", read_json(page, "/unpaid?point=3"), [])
+        expect("of none of this site", read_json(page, "/unpaid?point=64"), [])
+        for query in ("point=0", "point=65", "point=01", "point=+1", "point=", "points=1", "x", ""):
+            status, fields, body = page.get(f"/unpaid?{query}")
+            expect(query, (status, body), (400, b"ask for /unpaid or /unpaid?point=P\n"))
+        expect("its HEAD", page.get("/unpaid", "HEAD")[::2], (200, b""))
+
+
+def read_json(page, path):
+    """What is answered as JSON."""
+    status, fields, body = page.get(path)
+    expect(path, (status, fields["content-type"]), (200, "application/json"))
+    expect("not kept", fields["cache-control"], "no-store")
+    return json.loads(body)
+
+
+@test
+def whether_rows_can_be_added():
+    with start_page() as page:
+        status, fields, body = page.get("/healthz")
+        expect("well", (status, body), (200, b"ok\n"))
+        expect("as text", fields["content-type"], "text/plain; charset=utf-8")
+
+
+@test
+def figures_for_programs():
+    """`/metrics`: each family once, with the figures that `site.json` has; `promtool`, where it is
+    installed, finds nothing wrong."""
+    with start_page() as page:
+        page.tell(command_point(1, 0, 1, OPEN), report(1, 0, LIFT, 0))
+        page.tell(command_point(1, 0, 1, RELEASE), report(1, 0, FLOW, 1_000))
+        page.tell(report(1, 0, HANG_UP, 10_000), command_point(1, 0, 2, OPEN))
+        status, fields, body = page.get("/metrics")
+        kind = "application/openmetrics-text; version=1.0.0; charset=utf-8"
+        expect("the answer", (status, fields["content-type"]), (200, kind))
+        found, site = read_samples(body.decode()), page.site()
+        sale = site["transactions"][0]
+        wanted = {
+            "witsomar_rows_total": 8, "witsomar_kept_rows_total": 8,
+            "witsomar_connections": 3,
+            'witsomar_sessions{kind="till"}': 1, 'witsomar_sessions{kind="dispenser"}': 1,
+            'witsomar_points{state="idle"}': 2,
+            "witsomar_unpaid_transactions": 1, "witsomar_unpaid_cents": sale["cents"],
+            "witsomar_shift": 1, "witsomar_shifts_left": 998,
+        }  # fmt: skip
+        for name, value in wanted.items():
+            expect(name, found.get(name), value)
+        points = {name: n for name, n in found.items() if name.startswith("witsomar_points")}
+        expect("nine states", len(points), len(STATES))
+        expect("each point once", sum(points.values()), len(site["points"]))
+        if shutil.which("promtool"):
+            checked = run("promtool", "check", "metrics", given=body)
+            expect("promtool", (checked.status, checked.err), (0, ""))
+
+
+def read_samples(text):
+    """The samples of a text of OpenMetrics, by their names and labels."""
+    lines = text.splitlines()
+    expect("its end", (lines[-1], text[-1]), ("# EOF", "\n"))
+    pairs = [line.rsplit(" ", 1) for line in lines if not line.startswith("#")]
+    expect("each once", len({name for name, _ in pairs}), len(pairs))
+    return {name: int(value) for name, value in pairs}
 
 
 @test

@@ -1,9 +1,24 @@
 -- The page's connections.
-use Rattle.std.specs.Prelude.{List}
+use Rattle.std.specs.Prelude.{ℕ, List, Option}
 use Rattle.http_server.specs.Exchange.{Call}
+use Rattle.site_book.specs.Book.{Book}
+use Rattle.site_book.specs.Unpaid.{unpaid_sales}
+use Rattle.site_json.specs.declared.sessions.PeerSession.{PeerSession}
 use Rattle.site_page.specs.Connections.{history}
+use Rattle.site_page.specs.PageAnswers.{Shown}
 use Rattle.page_connections.specs.declared.page_link.PageLink.{PageLink}
 
 -- the requests that were answered so far, with their answers
 abbrev pub calls_of : PageLink → List Call
 calls_of link = (history link.connection).calls
+
+-- what the page of a book shows: just its unpaid transactions, beside what else it is told
+abbrev pub shown_of : Book → ℕ → List PeerSession → Option (List ℕ) → Option (List ℕ) → Shown
+shown_of b connections sessions opened seal = record {
+  book = b;
+  unpaid = unpaid_sales b;
+  connections = connections;
+  sessions = sessions;
+  opened = opened;
+  seal = seal;
+}

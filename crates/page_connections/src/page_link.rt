@@ -68,7 +68,7 @@ impl PageLink {
 
     /// Has its turn: it sends what it owes, and answers what its peer asks by this page. After
     /// `NoMemory` it is to be closed.
-    pub(crate) fn take_turn(&mut self, page: &Page, now: Instant) -> Result<Progress, NoMemory>
+    pub(crate) fn take_turn(&mut self, page: &Page<'_>, now: Instant) -> Result<Progress, NoMemory>
         ensures answers { OnOk result
             (AreAnswered page.now (calls_of self.old) (calls_of self.new)) }
         ensures reads { OnOk result (ReadsOn self.old self.new) }
@@ -84,7 +84,7 @@ impl PageLink {
 
     /// Takes one step.
     #[tactic(auto, using(crate::proofs::Reading::read_on))]
-    fn go_on(&mut self, page: &Page, now: Instant) -> Result<Progress, NoMemory>
+    fn go_on(&mut self, page: &Page<'_>, now: Instant) -> Result<Progress, NoMemory>
         ensures answers { OnOk result
             (AreAnswered page.now (calls_of self.old) (calls_of self.new)) }
         ensures reads { OnOk result (ReadsOn self.old self.new) }

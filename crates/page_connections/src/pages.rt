@@ -1,10 +1,8 @@
 //! The page's listener, and its connections.
 
-ghost use Rattle.std.specs.Prelude.{◌≡◌, IfOk, option_copied};
-ghost use Rattle.serde_json.specs.Written.{compact_text};
-ghost use Rattle.site_json.specs.SiteData.{site_data};
+ghost use Rattle.std.specs.Prelude.{◌≡◌, option_copied};
 ghost use Rattle.site_book.specs.Unpaid.{unpaid_sales};
-ghost use Rattle.site_page.specs.PageAnswers.{seal_line};
+ghost use Rattle.page_connections.specs.Pages.{shown_of};
 
 use crate::page_link::{PageLink, Progress};
 use crate::sizes::PAGE_CONNECTIONS;
@@ -113,7 +111,7 @@ impl Pages {
         requires { unpaid.now ≡ unpaid_sales book.now }
     {
         self.is_due = false;
-        match page_of(
+        let page = page_of(
             self.alloc,
             book,
             unpaid,
@@ -121,14 +119,12 @@ impl Pages {
             sessions,
             opened,
             seal,
-        ) {
-            Ok(page) => self.take_turns(registry, &page, now),
-            Err(NoMemory) => self.close_due(),
-        }
+        );
+        self.take_turns(registry, &page, now);
     }
 
     /// Each connection that is ready has its turn with this page.
-    fn take_turns(&mut self, registry: &Registry, page: &Page, now: Instant) {
+    fn take_turns(&mut self, registry: &Registry, page: &Page<'_>, now: Instant) {
         for place in 0..self.links.len() {
             self.take_turn(registry, page, place, now);
         }
@@ -136,7 +132,7 @@ impl Pages {
 
     /// The connection at this place has its turn, if it is ready. Where that is over before it
     /// waits for its peer, it is reported once more.
-    fn take_turn(&mut self, registry: &Registry, page: &Page, place: usize, now: Instant) {
+    fn take_turn(&mut self, registry: &Registry, page: &Page<'_>, place: usize, now: Instant) {
         let token = self.token_of(place);
         let Some(Some(link)) = self.links.get_mut(place) else {
             return;
@@ -219,22 +215,20 @@ impl Pages {
 
 /// The page of a book with these unpaid transactions, so many connections, these sessions, this
 /// time of the open shift's first row and this last seal.
-fn page_of(
+fn page_of<'a>(
     alloc: Global,
-    book: &SiteBook,
-    unpaid: &[NamedSale],
+    book: &'a SiteBook,
+    unpaid: &'a [NamedSale],
     connections: usize,
-    sessions: &[PeerSession],
+    sessions: &'a [PeerSession],
     opened: Option<Stamp>,
-    seal: Option<&str>,
-) -> Result<Page, NoMemory>
+    seal: Option<&'a str>,
+) -> Page<'a>
     requires { unpaid.now ≡ unpaid_sales book.now }
-    ensures site { IfOk result (λ page. page.site ≡ compact_text
-        (site_data book.now (unpaid_sales book.now) connections sessions.now opened
-        (option_copied seal.entry))) }
-    ensures seal { IfOk result (λ page. page.seal ≡ seal_line (option_copied seal.entry)) }
+    ensures { result ≡ shown_of book.now connections sessions.now opened
+        (option_copied seal.entry) }
 {
-    Page::of_book(alloc, book, unpaid, connections, sessions, opened, seal)
+    Page::new(alloc, book, unpaid, connections, sessions, opened, seal)
 }
 
 /// Closes a connection, if there is one.

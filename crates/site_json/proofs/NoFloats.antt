@@ -17,7 +17,7 @@ use Rattle.site_json.specs.declared.sessions.PeerSession.{PeerSession}
 use Rattle.site_json.specs.Sessions.{is_connected, session_data}
 use Rattle.site_json.specs.SiteData.{site_data}
 use Rattle.site_json.specs.Tills.{till_data}
-use Rattle.site_json.specs.Transactions.{transaction_data}
+use Rattle.site_json.specs.Transactions.{sales_at, transaction_data, unpaid_data}
 use Rattle.day_report.proofs.NoFloats.{no_float_mapped, no_float_products}
 
 no_float_if : (o : Option ℕ) → has_float (figure_if o) ≡ false
@@ -80,3 +80,8 @@ no_float_site b unpaid connections sessions opened seal =
       no_float_mapped (till_data s) tills (λ t. refl),
       no_float_mapped transaction_data unpaid no_float_transaction,
     ) refl
+
+pub no_float_unpaid : (point : Option ℕ) (unpaid : List NamedSale)
+    → has_float (unpaid_data point unpaid) ≡ false
+no_float_unpaid point unpaid =
+    rw (no_float_mapped transaction_data (sales_at point unpaid) no_float_transaction) refl

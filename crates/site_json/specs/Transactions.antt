@@ -1,11 +1,11 @@
 -- A transaction as JSON. Members stand in the order of their names.
-use Rattle.std.specs.Prelude.{ℕ, List, codes, map}
+use Rattle.std.specs.Prelude.{ℕ, ◌==◌, List, Option, Some, None, codes, filter, map}
 use Rattle.serde_json.specs.Data.{Data, string, object, member, no_members}
 use Rattle.site_base.specs.declared.state.Status.{Status}
 use Rattle.site_base.specs.declared.state.Status.TheVariants.{Payable, Locked, Cleared}
 use Rattle.transaction_buffer.specs.Sales.{status_of, till_of}
 use Rattle.site_book.specs.declared.named_sale.NamedSale.{NamedSale}
-use Rattle.day_report.specs.Figures.{figure}
+use Rattle.day_report.specs.Figures.{figure, listed}
 use Rattle.site_json.specs.Figures.{figure_if}
 
 -- the name of a status
@@ -31,3 +31,12 @@ transaction_data x =
 
 abbrev pub transactions_data : List NamedSale → List Data
 transactions_data sales = map transaction_data sales
+
+-- those of these transactions that are at a point; without a point all
+abbrev pub sales_at : Option ℕ → List NamedSale → List NamedSale
+sales_at None sales = sales
+sales_at (Some p) sales = filter (λ x. x.point == p) sales
+
+-- the unpaid transactions of a point, or of all, as JSON
+abbrev pub unpaid_data : Option ℕ → List NamedSale → Data
+unpaid_data point unpaid = listed (transactions_data (sales_at point unpaid))

@@ -8,7 +8,10 @@ mod points;
 mod sessions;
 mod tills;
 mod transactions;
+mod unpaid;
 mod whole_site;
 
+pub use points::state_word;
 pub use sessions::PeerSession;
+pub use unpaid::unpaid_text;
 pub use whole_site::{site_text, site_value};

@@ -1,13 +1,14 @@
 //! Transactions as JSON.
 
-ghost use Rattle.std.specs.Prelude.{◌≡◌, map, IfOk};
+ghost use Rattle.std.specs.Prelude.{◌≡◌, map, IfOk, Some};
 ghost use Rattle.serde_json.specs.View.{view};
 ghost use Rattle.transaction_buffer.specs.Sales.{status_of, till_of};
-ghost use Rattle.site_json.specs.Transactions.{status_word, transaction_data, transactions_data};
+ghost use Rattle.site_json.specs.Transactions.{sales_at, status_word, transaction_data};
+ghost use Rattle.site_json.specs.Transactions.{transactions_data};
 
 use crate::figures::{figure_if, widen};
 use serde_json::{Value, json};
-use site_base::NoMemory;
+use site_base::{FpNo, NoMemory};
 use site_book::NamedSale;
 use std::alloc::{AllocError, Global};
 use transaction_buffer::Standing;
@@ -20,6 +21,24 @@ pub fn transaction_values(alloc: Global, sales: &[NamedSale]) -> Result<Vec<Valu
     let mut values = Vec::new(alloc);
     for sale in sales {
         values.push(transaction_value(alloc, sale)?)?;
+    }
+    Ok(values)
+}
+
+/// The transactions of a point among these, in their order.
+pub fn transaction_values_at(
+    alloc: Global,
+    sales: &[NamedSale],
+    p: FpNo,
+) -> Result<Vec<Value>, NoMemory>
+    ensures { IfOk result (λ values.
+        map view values.items ≡ transactions_data (sales_at (Some p) sales.now)) }
+{
+    let mut values = Vec::new(alloc);
+    for sale in sales {
+        if sale.point == p {
+            values.push(transaction_value(alloc, sale)?)?;
+        }
     }
     Ok(values)
 }

@@ -5,8 +5,7 @@ use Rattle.http_server.specs.Connection as server
 use Rattle.http_server.specs.Exchange.{Call}
 use Rattle.http_server.specs.History.{History}
 use Rattle.site_page.specs.declared.connection.PageConnection.{PageConnection}
-use Rattle.site_page.specs.declared.page.Page.{Page}
-use Rattle.site_page.specs.PageAnswers.{IsPageAnswer}
+use Rattle.site_page.specs.PageAnswers.{IsPageAnswer, Shown}
 
 -- what came, what was answered, and what waits to be sent
 abbrev pub history : PageConnection → History
@@ -21,7 +20,7 @@ pub record IsHeard (octets : List ℕ) (count : ℕ) (old new : History) : Type 
   pub within : count ≤ length octets
   pub received : new.received ≡ old.received ++ take count octets
 
--- The calls that came since those before were each answered by this page
-abbrev pub AreAnswered : Page → List Call → List Call → Type 0
-AreAnswered page before after =
-    (calls : List Call) × (after ≡ before ++ calls) × All (λ c. IsPageAnswer page c.0 c.1) calls
+-- The calls that came since those before were each answered from this
+abbrev pub AreAnswered : Shown → List Call → List Call → Type 0
+AreAnswered shown before after =
+    (calls : List Call) × (after ≡ before ++ calls) × All (λ c. IsPageAnswer shown c.0 c.1) calls

@@ -1,13 +1,24 @@
 -- What the page answers.
-use Rattle.std.specs.Prelude.{◌≡◌, ◌≢◌, ◌⊎◌, ◌++◌, ℕ, List, [], ◌∷◌, Option, Some, None, codes}
+use Rattle.std.specs.Prelude.{◌≡◌, ◌≢◌, ◌≤◌, ◌⊎◌, ◌++◌, ℕ, Bool, true, false, List, [], ◌∷◌}
+use Rattle.std.specs.Prelude.{Option, Some, None, codes, decimal, ⊤}
 use Rattle.http.specs.declared.request.Request.{Request}
 use Rattle.http.specs.Request.{head_of}
 use Rattle.http1.specs.Fields.{Header}
-use Rattle.http_uri.specs.Uri.{uri_path}
+use Rattle.http_uri.specs.Uri.{uri_path, uri_query}
 use Rattle.http_server.specs.declared.response.Response.{Response}
 use Rattle.http_server.specs.Response.{IsResponse}
+use Rattle.serde_json.specs.Data.{Data}
+use Rattle.serde_json.specs.Written.{compact_text}
+use Rattle.site_base.specs.declared.limits.TheConstants.{POINTS}
+use Rattle.site_book.specs.Book.{Book, is_full}
+use Rattle.site_book.specs.declared.named_sale.NamedSale.{NamedSale}
+use Rattle.site_json.specs.declared.sessions.PeerSession.{PeerSession}
+use Rattle.site_json.specs.SiteData.{site_data}
+use Rattle.site_json.specs.Transactions.{unpaid_data}
+use Rattle.site_metrics.specs.Metrics.{metrics_text}
 use Rattle.site_page.specs.declared.html.TheConstants.{PAGE}
-use Rattle.site_page.specs.declared.page.Page.{Page}
+use Rattle.site_page.specs.declared.query.Asked.{Asked}
+use Rattle.site_page.specs.declared.query.Asked.TheVariants.{All, Point, Unknown}
 use Rattle.site_page.specs.declared.policy.TheConstants.{POLICY}
 
 -- the fields of an answer with the page: its type, what it may do, and that it isn't kept
@@ -18,24 +29,22 @@ page_fields =
     ∷ (codes "cache-control", codes "no-store")
     ∷ (codes "x-content-type-options", codes "nosniff") ∷ []
 
--- the fields of an answer with the site
+-- the fields of an answer that is a text of this type
+abbrev pub text_fields : List ℕ → List Header
+text_fields kind =
+    (codes "content-type", kind)
+    ∷ (codes "cache-control", codes "no-store")
+    ∷ (codes "x-content-type-options", codes "nosniff") ∷ []
+
 abbrev pub site_fields : List Header
-site_fields =
-    (codes "content-type", codes "application/json")
-    ∷ (codes "cache-control", codes "no-store")
-    ∷ (codes "x-content-type-options", codes "nosniff") ∷ []
+site_fields = text_fields (codes "application/json")
 
--- the fields of an answer with the last seal
-abbrev pub seal_fields : List Header
-seal_fields =
-    (codes "content-type", codes "text/plain; charset=utf-8")
-    ∷ (codes "cache-control", codes "no-store")
-    ∷ (codes "x-content-type-options", codes "nosniff") ∷ []
+abbrev pub metrics_fields : List Header
+metrics_fields =
+    text_fields (codes "application/openmetrics-text; version=1.0.0; charset=utf-8")
 
--- a seal as a line of text, if there is one
-abbrev pub seal_line : Option (List ℕ) → Option (List ℕ)
-seal_line None = None
-seal_line (Some seal) = Some (seal ++ codes "\n")
+abbrev pub line_fields : List Header
+line_fields = text_fields (codes "text/plain; charset=utf-8")
 
 -- which methods are answered
 abbrev pub methods_fields : List Header
@@ -48,25 +57,91 @@ IsRead r = ((head_of r).method ≡ codes "GET") ⊎ ((head_of r).method ≡ code
 abbrev pub path_of : Request (List ℕ) → List ℕ
 path_of r = uri_path (head_of r).uri
 
+abbrev pub query_of : Request (List ℕ) → Option (List ℕ)
+query_of r = uri_query (head_of r).uri
+
 -- there is no such path
 abbrev pub IsNothing : Response → Type 0
 IsNothing response = IsResponse 404 [] [] response
 
+-- a line of text, or a JSON text that isn't kept
+abbrev pub IsLine : ℕ → List ℕ → Response → Type 0
+IsLine status line response = IsResponse status line_fields line response
+
+abbrev pub IsJson : Data → Response → Type 0
+IsJson shown response = IsResponse 200 site_fields (compact_text shown) response
+
 -- the line of the last seal; without one there is no such path
 abbrev pub IsSealAnswer : Option (List ℕ) → Response → Type 0
 IsSealAnswer None response = IsNothing response
-IsSealAnswer (Some line) response = IsResponse 200 seal_fields line response
+IsSealAnswer (Some seal) response = IsLine 200 (seal ++ codes "\n") response
 
--- The page answers the request: / with the page, /site.json with its JSON, /seal with the line of
--- its last seal; any other path isn't there, and no method is answered but GET and HEAD. Whether
--- there is a body to HEAD is the connection's.
-pub record IsPageAnswer (page : Page) (request : Request (List ℕ)) (response : Response)
+-- The unpaid transactions: all without a query, those of a point for `point=P`. Any other query is
+-- refused.
+pub record IsUnpaidAnswer (unpaid : List NamedSale) (query : Option (List ℕ)) (response : Response)
     : Type 0 where
-  pub html : IsRead request → path_of request ≡ codes "/"
-      → IsResponse 200 page_fields PAGE.now response
-  pub site : IsRead request → path_of request ≡ codes "/site.json"
-      → IsResponse 200 site_fields page.site response
-  pub seal : IsRead request → path_of request ≡ codes "/seal" → IsSealAnswer page.seal response
-  pub nothing : IsRead request → path_of request ≢ codes "/" → path_of request ≢ codes "/site.json"
-      → path_of request ≢ codes "/seal" → IsNothing response
+  pub all : query ≡ None → IsJson (unpaid_data None unpaid) response
+  pub some : (p : ℕ) → 1 ≤ p → p ≤ POINTS → query ≡ Some (codes "point=" ++ decimal p)
+      → IsJson (unpaid_data (Some p) unpaid) response
+  pub other : (q : List ℕ) → query ≡ Some q
+      → ((p : ℕ) → 1 ≤ p → p ≤ POINTS → q ≢ codes "point=" ++ decimal p)
+      → IsLine 400 (codes "ask for /unpaid or /unpaid?point=P\n") response
+
+-- what a query asks for
+abbrev pub AsksFor : Option (List ℕ) → Asked → Type 0
+AsksFor None All = ⊤
+AsksFor (Some q) (Point p) = (1 ≤ p) × (p ≤ POINTS) × (q ≡ codes "point=" ++ decimal p)
+AsksFor (Some q) Unknown = (p : ℕ) → 1 ≤ p → p ≤ POINTS → q ≢ codes "point=" ++ decimal p
+AsksFor query asked = ⊥
+
+-- whether rows can be added: a book without room for one more takes none
+abbrev pub IsHealthAnswer : Bool → Response → Type 0
+IsHealthAnswer false response = IsLine 200 (codes "ok\n") response
+IsHealthAnswer true response = IsLine 503 (codes "the book is full\n") response
+
+-- What requests are answered from: a book, of which these are the unpaid transactions, so many
+-- connections, these sessions, and of its history the time of the open shift's first row and the
+-- last seal.
+pub record Shown : Type 0 where
+  pub book : Book
+  pub unpaid : List NamedSale
+  pub connections : ℕ
+  pub sessions : List PeerSession
+  pub opened : Option (List ℕ)
+  pub seal : Option (List ℕ)
+
+-- its figures for programs that watch the site
+abbrev pub IsMetricsAnswer : Shown → Response → Type 0
+IsMetricsAnswer x response =
+    IsResponse 200 metrics_fields (metrics_text x.book x.unpaid x.connections x.sessions) response
+
+abbrev pub shown_data : Shown → Data
+shown_data x = site_data x.book x.unpaid x.connections x.sessions x.opened x.seal
+
+-- none of the paths that are answered
+pub record IsUnknown (path : List ℕ) : Type 0 where
+  pub html : path ≢ codes "/"
+  pub site : path ≢ codes "/site.json"
+  pub unpaid : path ≢ codes "/unpaid"
+  pub metrics : path ≢ codes "/metrics"
+  pub health : path ≢ codes "/healthz"
+  pub seal : path ≢ codes "/seal"
+
+-- What a path is answered: / the page, /site.json the site as JSON, /unpaid the unpaid transactions,
+-- /metrics the figures, /healthz whether rows can be added, /seal the line of the last seal; any other isn't there.
+pub record IsPathAnswer (x : Shown) (path : List ℕ) (query : Option (List ℕ)) (response : Response)
+    : Type 0 where
+  pub html : path ≡ codes "/" → IsResponse 200 page_fields PAGE.now response
+  pub site : path ≡ codes "/site.json" → IsJson (shown_data x) response
+  pub unpaid : path ≡ codes "/unpaid" → IsUnpaidAnswer x.unpaid query response
+  pub metrics : path ≡ codes "/metrics" → IsMetricsAnswer x response
+  pub health : path ≡ codes "/healthz" → IsHealthAnswer (is_full x.book) response
+  pub seal : path ≡ codes "/seal" → IsSealAnswer x.seal response
+  pub nothing : IsUnknown path → IsNothing response
+
+-- The page answers the request: GET and HEAD by its path, and no other method. Whether there is a
+-- body to HEAD is the connection's.
+pub record IsPageAnswer (x : Shown) (request : Request (List ℕ)) (response : Response)
+    : Type 0 where
+  pub read : IsRead request → IsPathAnswer x (path_of request) (query_of request) response
   pub refused : (IsRead request → ⊥) → IsResponse 405 methods_fields [] response

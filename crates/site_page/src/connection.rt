@@ -45,7 +45,7 @@ impl PageConnection {
     /// many it heard: none where something is owed, or the connection ends. After `NoMemory` the
     /// connection is to be dropped.
     #[tactic(auto, using(crate::proofs::Calls::none_answered, crate::proofs::Calls::none_heard))]
-    pub fn hear(&mut self, octets: &[u8], page: &Page) -> Result<usize, NoMemory>
+    pub fn hear(&mut self, octets: &[u8], page: &Page<'_>) -> Result<usize, NoMemory>
         ensures heard { IfOk result (λ count.
             IsHeard octets.now count (history self.old) (history self.new)) }
         ensures answers { IfOk result (λ count. AreAnswered page.now
@@ -115,14 +115,14 @@ impl PageConnection {
     }
 
     /// Answers each request that is whole.
-    fn answer(&mut self, page: &Page) -> Result<(), NoMemory>
+    fn answer(&mut self, page: &Page<'_>) -> Result<(), NoMemory>
         ensures received { OnOk result
             ((history self.new).received ≡ (history self.old).received) }
         ensures answers { OnOk result (AreAnswered page.now
             (history self.old).calls (history self.new).calls) }
         ensures limits { limits_of self.new ≡ limits_of self.old }
     {
-        let mut shared = page.share()?;
+        let mut shared = page.share();
         self.connection.advance(&mut shared);
         Ok(())
     }

@@ -9,6 +9,8 @@ mod connection;
 mod html;
 mod page;
 mod policy;
+mod query;
+mod texts;
 
 pub use connection::PageConnection;
 pub use html::PAGE;

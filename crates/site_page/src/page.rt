@@ -1,79 +1,228 @@
 //! What the page answers.
 
-ghost use Rattle.std.specs.Prelude.{◌≡◌, [], IfOk, OnOk, OnErr, option_copied};
+ghost use Rattle.std.specs.Prelude.{◌≡◌, Option, Some, [], IfSome, OnOk, option_copied};
 ghost use Rattle.http_server.specs.Response.{IsBlank, IsResponse};
-ghost use Rattle.serde_json.specs.Written.{compact_text};
-ghost use Rattle.site_json.specs.SiteData.{site_data};
+ghost use Rattle.site_book.specs.Book.{is_full};
+ghost use Rattle.site_json.specs.Transactions.{unpaid_data};
 ghost use Rattle.site_page.specs.declared.html.TheConstants.{PAGE};
-ghost use Rattle.site_page.specs.PageAnswers.{IsNothing, IsPageAnswer, methods_fields};
-ghost use Rattle.site_page.specs.PageAnswers.{page_fields, seal_fields, seal_line, site_fields};
+ghost use Rattle.site_page.specs.PageAnswers.{IsHealthAnswer, IsJson, IsMetricsAnswer, IsNothing};
+ghost use Rattle.site_page.specs.PageAnswers.{IsPageAnswer};
+ghost use Rattle.site_page.specs.PageAnswers.{IsPathAnswer};
+ghost use Rattle.site_page.specs.PageAnswers.{IsSealAnswer, IsUnpaidAnswer, methods_fields};
+ghost use Rattle.site_page.specs.PageAnswers.{page_fields, shown_data};
 
 use crate::html::PAGE;
 use crate::policy::POLICY;
+use crate::query::{Asked, read_query};
+use crate::texts::{put_json, put_line, put_metrics_text};
 use bytes::Bytes;
 use http::{HeaderValue, Request, StatusCode, header};
 use http_server::{Response, Service};
-use site_base::NoMemory;
+use site_base::FpNo;
 use site_book::{NamedSale, SiteBook};
-use site_json::{PeerSession, site_text};
+use site_json::{PeerSession, site_text, unpaid_text};
+use site_metrics::metrics_text;
 use stamps::Stamp;
 use std::alloc::{AllocError, Global};
+use std::marker::Model;
 
-/// What requests are answered by.
+/// What requests are answered from: it is lent for a round, and makes only what is asked for.
 #[derive(Drop)]
-pub struct Page {
-    /// The site as JSON.
-    pub site: Bytes,
-    /// The last seal of the history and a line feed; None without a history.
-    pub seal: Option<Bytes>,
+pub struct Page<'a> {
+    alloc: Global,
+    book: &'a SiteBook,
+    unpaid: &'a [NamedSale],
+    connections: usize,
+    sessions: &'a [PeerSession],
+    opened: Option<Stamp>,
+    seal: Option<&'a str>,
 }
 
-impl Page {
+impl<'a> Model for Page<'a> {
+    ghost use Rattle.std.specs.Prelude.{option_copied};
+    ghost use Rattle.site_page.specs.PageAnswers.{Shown};
+
+    ghost Value = { Shown };
+
+    ghost view = { λ p. record {
+        book = p.book.now;
+        unpaid = p.unpaid.now;
+        connections = p.connections;
+        sessions = p.sessions.now;
+        opened = p.opened;
+        seal = option_copied p.seal;
+    } };
+}
+
+impl<'a> Page<'a> {
     /// The page of a book's site, with these transactions, which the caller has found unpaid, so
     /// many connections, these sessions, and of its history the time of the open shift's first row
-    /// and the last seal. It stays as it is while the book goes on.
-    pub fn of_book(
+    /// and the last seal.
+    pub fn new(
         alloc: Global,
-        book: &SiteBook,
-        unpaid: &[NamedSale],
+        book: &'a SiteBook,
+        unpaid: &'a [NamedSale],
         connections: usize,
-        sessions: &[PeerSession],
+        sessions: &'a [PeerSession],
         opened: Option<Stamp>,
-        seal: Option<&str>,
-    ) -> Result<Page, NoMemory>
-        ensures site { IfOk result (λ page. page.site ≡ compact_text
-            (site_data book.now unpaid.now connections sessions.now opened
-            (option_copied seal.entry))) }
-        ensures seal { IfOk result (λ page. page.seal ≡ seal_line (option_copied seal.entry)) }
+        seal: Option<&'a str>,
+    ) -> Page<'a>
+        ensures book { result.book ≡ book.now }
+        ensures unpaid { result.unpaid ≡ unpaid.now }
+        ensures connections { result.connections ≡ connections }
+        ensures sessions { result.sessions ≡ sessions.now }
+        ensures opened { result.opened ≡ opened }
+        ensures seal { result.seal ≡ option_copied seal.entry }
     {
-        let text = site_text(alloc, book, unpaid, connections, sessions, opened, seal)?;
-        Ok(Page {
-            site: Bytes::from_string(text)?,
-            seal: seal_line(alloc, seal)?,
-        })
+        Page {
+            alloc,
+            book,
+            unpaid,
+            connections,
+            sessions,
+            opened,
+            seal,
+        }
     }
 
-    /// The same page once more. It shares its texts with this one.
-    pub(crate) fn share(&self) -> Result<Page, NoMemory>
-        ensures { IfOk result (λ page. page ≡ self.now) }
+    /// The same page once more.
+    pub(crate) fn share(&self) -> Page<'a>
+        ensures { result ≡ self.now }
     {
-        let seal = match &self.seal {
-            Some(line) => Some(line.clone()?),
-            None => None,
+        Page {
+            alloc: self.alloc,
+            book: self.book,
+            unpaid: self.unpaid,
+            connections: self.connections,
+            sessions: self.sessions,
+            opened: self.opened,
+            seal: self.seal,
+        }
+    }
+
+    /// What this path, with this query, is answered.
+    #[tactic(auto, using(crate::proofs::Answering::by_path))]
+    fn put_path(
+        &self,
+        path: &str,
+        query: Option<&str>,
+        response: &mut Response,
+    ) -> Result<(), AllocError>
+        requires { IsBlank response.old }
+        ensures { OnOk result
+            (IsPathAnswer self.now path.now (option_copied query.entry) response.new) }
+    {
+        match path {
+            "/" => put_page(response),
+            "/site.json" => self.put_site(response),
+            "/unpaid" => self.put_unpaid(query, response),
+            "/metrics" => self.put_metrics(response),
+            "/healthz" => self.put_health(response),
+            "/seal" => self.put_seal(response),
+            _ => refuse_path(response),
+        }
+    }
+
+    /// The site.
+    fn put_site(&self, response: &mut Response) -> Result<(), AllocError>
+        requires { IsBlank response.old }
+        ensures { OnOk result (IsJson (shown_data self.now) response.new) }
+    {
+        match site_text(
+            self.alloc,
+            self.book,
+            self.unpaid,
+            self.connections,
+            self.sessions,
+            self.opened,
+            self.seal,
+        ) {
+            Ok(text) => put_json(text, response),
+            Err(_) => Err(AllocError),
+        }
+    }
+
+    /// The unpaid transactions that this query asks for.
+    #[tactic(auto, using(crate::proofs::Answering::asked))]
+    fn put_unpaid(&self, query: Option<&str>, response: &mut Response) -> Result<(), AllocError>
+        requires { IsBlank response.old }
+        ensures { OnOk result
+            (IsUnpaidAnswer self.now.unpaid (option_copied query.entry) response.new) }
+    {
+        match read_query(query) {
+            Asked::All => self.put_unpaid_of(None, response),
+            Asked::Point(p) => self.put_unpaid_of(Some(p), response),
+            Asked::Unknown => {
+                let line = Bytes::from_static(b"ask for /unpaid or /unpaid?point=P\n");
+                put_line(StatusCode::BAD_REQUEST, line, response)
+            }
+        }
+    }
+
+    /// The unpaid transactions of this point, or all.
+    fn put_unpaid_of(
+        &self,
+        point: Option<FpNo>,
+        response: &mut Response,
+    ) -> Result<(), AllocError>
+        requires { IsBlank response.old }
+        ensures { OnOk result (IsJson (unpaid_data point self.now.unpaid) response.new) }
+    {
+        match unpaid_text(self.alloc, self.unpaid, point) {
+            Ok(text) => put_json(text, response),
+            Err(_) => Err(AllocError),
+        }
+    }
+
+    /// The figures, for programs that watch the site.
+    fn put_metrics(&self, response: &mut Response) -> Result<(), AllocError>
+        requires { IsBlank response.old }
+        ensures { OnOk result (IsMetricsAnswer self.now response.new) }
+    {
+        let text = metrics_text(
+            self.alloc,
+            self.book,
+            self.unpaid,
+            self.connections,
+            self.sessions,
+        )?;
+        put_metrics_text(text, response)
+    }
+
+    /// Whether rows can be added.
+    fn put_health(&self, response: &mut Response) -> Result<(), AllocError>
+        requires { IsBlank response.old }
+        ensures { OnOk result (IsHealthAnswer (is_full self.now.book) response.new) }
+    {
+        if is_full(self.book) {
+            let line = Bytes::from_static(b"the book is full\n");
+            put_line(StatusCode::SERVICE_UNAVAILABLE, line, response)
+        } else {
+            put_line(StatusCode::OK, Bytes::from_static(b"ok\n"), response)
+        }
+    }
+
+    /// The line of the last seal, if there is a history.
+    fn put_seal(&self, response: &mut Response) -> Result<(), AllocError>
+        requires { IsBlank response.old }
+        ensures { OnOk result (IsSealAnswer self.now.seal response.new) }
+    {
+        let Some(seal) = self.seal else {
+            return refuse_path(response);
         };
-        Ok(Page {
-            site: self.site.clone()?,
-            seal,
-        })
+        let mut line = String::from_str(self.alloc, seal)?;
+        line.push('\n')?;
+        put_line(StatusCode::OK, Bytes::from_string(line)?, response)
     }
 }
 
-impl Service for Page {
+impl<'a> Service for Page<'a> {
     ghost answers = { λ old request response new.
         IsPageAnswer old request response × (new ≡ old) };
 
     /// `GET` and `HEAD` of `/` are answered with the page, of `/site.json` with the site, of
-    /// `/seal` with the last seal, if there is a history; of any other path it is 404, and for any
+    /// `/unpaid` with the unpaid transactions, of `/metrics` with the figures, of `/healthz` with
+    /// whether rows can be added, of `/seal` with the last seal, if there is a history; of any other path it is 404, and for any
     /// other method 405.
     fn call(
         &mut self,
@@ -83,28 +232,15 @@ impl Service for Page {
         if request.method().as_str() != "GET" && request.method().as_str() != "HEAD" {
             return refuse_method(response);
         }
-        match request.uri().path() {
-            "/" => put_page(response),
-            "/site.json" => put_site(&self.site, response),
-            "/seal" => match &self.seal {
-                Some(line) => put_seal(line, response),
-                None => refuse_path(response),
-            },
-            _ => refuse_path(response),
-        }
+        self.put_path(request.uri().path(), request.uri().query(), response)
     }
 }
 
-/// The line of a seal, if there is one.
-fn seal_line(alloc: Global, seal: Option<&str>) -> Result<Option<Bytes>, NoMemory>
-    ensures { IfOk result (λ line. line ≡ seal_line (option_copied seal.entry)) }
+/// Has a book no room for one more row?
+fn is_full(book: &SiteBook) -> bool
+    ensures { result ≡ is_full book.now }
 {
-    let Some(seal) = seal else {
-        return Ok(None);
-    };
-    let mut line = String::from_str(alloc, seal)?;
-    line.push('\n')?;
-    Ok(Some(Bytes::from_string(line)?))
+    book.rows_in_memory() >= book.config().rows() as usize
 }
 
 /// The page.
@@ -126,40 +262,6 @@ fn put_page(response: &mut Response) -> Result<(), AllocError>
         HeaderValue::from_static("nosniff"),
     )?;
     response.body.push(Bytes::from_static(PAGE.as_bytes()))
-}
-
-/// The site.
-fn put_site(site: &Bytes, response: &mut Response) -> Result<(), AllocError>
-    requires { IsBlank response.old }
-    ensures { OnOk result (IsResponse 200 site_fields site.now response.new) }
-{
-    response.add_header(
-        header::CONTENT_TYPE,
-        HeaderValue::from_static("application/json"),
-    )?;
-    response.add_header(header::CACHE_CONTROL, HeaderValue::from_static("no-store"))?;
-    response.add_header(
-        header::X_CONTENT_TYPE_OPTIONS,
-        HeaderValue::from_static("nosniff"),
-    )?;
-    response.body.push(site.clone()?)
-}
-
-/// The line of the last seal.
-fn put_seal(line: &Bytes, response: &mut Response) -> Result<(), AllocError>
-    requires { IsBlank response.old }
-    ensures { OnOk result (IsResponse 200 seal_fields line.now response.new) }
-{
-    response.add_header(
-        header::CONTENT_TYPE,
-        HeaderValue::from_static("text/plain; charset=utf-8"),
-    )?;
-    response.add_header(header::CACHE_CONTROL, HeaderValue::from_static("no-store"))?;
-    response.add_header(
-        header::X_CONTENT_TYPE_OPTIONS,
-        HeaderValue::from_static("nosniff"),
-    )?;
-    response.body.push(line.clone()?)
 }
 
 /// That there is no such path.

@@ -3,4 +3,4 @@ use Rattle.site_page.proofs.connection.PageConnection.answer.Goals as goal
 
 pub returns-clause-answers : goal.returns-clause-answers
 returns-clause-answers c =
-    answered_by _ _ _ _ _ c.in_ok-shared.ensures c.advance.ensures.calls
+    answered_by _ _ _ _ _ c.share-shared.ensures c.advance.ensures.calls

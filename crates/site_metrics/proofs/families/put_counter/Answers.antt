@@ -1,0 +1,10 @@
+use Rattle.std.proofs.Common.{refl}
+use Rattle.site_metrics.specs.Metrics.{counter}
+use Rattle.site_metrics.proofs.JoinedTexts.{put_last}
+use Rattle.site_metrics.proofs.families.put_counter.Goals as goal
+
+pub returns : goal.returns
+unfolding counter
+returns c =
+    put_last _ _ _ _ _ _ _ c.in_ok-put_head.ensures
+    (c.put_sample.ensures) refl
