@@ -1,3 +1,6 @@
 pub mod Rows
 pub mod OneRow
 pub mod Readers
+pub mod Lines
+pub mod Runs
+pub mod GapRows

@@ -56,7 +56,7 @@ accepted_told s a e = by_refusal (first_refusal s a e)
     by_refusal None = refl
     by_refusal (Some refusal) = refl
 
-refusal_is : (s : SiteState) (a : Actor) (e : Event)
+pub refusal_is : (s : SiteState) (a : Actor) (e : Event)
     → refusal_told (reply_to s a e) ≡ first_refusal s a e
 refusal_is s a e = by_refusal (first_refusal s a e)
   where

@@ -1,2 +1,4 @@
 pub mod Figures
 pub mod Counting
+pub mod Laws
+pub mod Gaps

@@ -4,7 +4,15 @@
 #![tactic(auto)]
 
 mod figures;
+mod gap;
+mod gap_list;
+mod gap_reader;
+mod laws;
 mod meter_reader;
 
 pub use figures::NozzleFigures;
+pub use gap::{MeterReading, RefusedRun, Replacement, RowPlace};
+pub use gap_list::GapList;
+pub use gap_reader::GapReader;
+pub use laws::{each_line_adds_up, each_whole_line_adds_up};
 pub use meter_reader::MeterReader;
