@@ -4,3 +4,4 @@ pub mod Readers
 pub mod Lines
 pub mod Runs
 pub mod GapRows
+pub mod MoreLines

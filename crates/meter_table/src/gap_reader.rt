@@ -84,6 +84,14 @@ impl GapReader {
         }
     }
 
+    /// Begins again at the site as it is: no row is read from there on.
+    pub fn begin_here(&mut self, alloc: Global)
+        ensures site { self.new.site ≡ self.old.site }
+        ensures gaps { self.new.gaps ≡ no_gaps }
+    {
+        self.gaps = GapList::new(alloc);
+    }
+
     /// The gaps of the rows that were read.
     pub fn gaps(&self) -> &GapList
         ensures { result.now ≡ self.now.gaps }

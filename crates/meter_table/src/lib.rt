@@ -3,16 +3,24 @@
 //! meters jumped. Its lines add up (`specs/Laws.antt`).
 #![tactic(auto)]
 
+mod figure_lines;
 mod figures;
+mod form;
 mod gap;
+mod gap_lines;
 mod gap_list;
 mod gap_reader;
 mod laws;
 mod meter_reader;
+mod people;
+mod tables;
+mod words;
 
 pub use figures::NozzleFigures;
+pub use form::Form;
 pub use gap::{MeterReading, RefusedRun, Replacement, RowPlace};
 pub use gap_list::GapList;
 pub use gap_reader::GapReader;
 pub use laws::{each_line_adds_up, each_whole_line_adds_up};
 pub use meter_reader::MeterReader;
+pub use tables::{figures_table, gaps_table};
