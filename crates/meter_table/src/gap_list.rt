@@ -104,18 +104,18 @@ impl GapList {
 /// The open run of this reading's nozzle, if it has one, is settled by this row.
 fn settle(
     settled: &mut Vec<RefusedRun>,
-    open: &mut Vec<RefusedRun>,
+    runs: &mut Vec<RefusedRun>,
     row: u64,
     told: &MeterReading,
 ) -> Result<(), NoMemory>
     ensures settled { OnOk result (settled.new.items ≡ settled.old.items
-        ++ settled_run row told.now.point told.now.nozzle open.old.items) }
-    ensures open { OnOk result
-        (open.new.items ≡ without_run told.now.point told.now.nozzle open.old.items) }
+        ++ settled_run row told.now.point told.now.nozzle runs.old.items) }
+    ensures unsettled { OnOk result
+        (runs.new.items ≡ without_run told.now.point told.now.nozzle runs.old.items) }
 {
-    match find_run(open, told) {
+    match find_run(runs, told) {
         Some(place) => {
-            let run = open.remove(place);
+            let run = runs.remove(place);
             settled.push(run.settled_by(row))?;
             Ok(())
         }
@@ -125,30 +125,30 @@ fn settle(
 
 /// The open run of this reading's nozzle goes on with it, or begins.
 fn add_refused(
-    open: &mut Vec<RefusedRun>,
+    runs: &mut Vec<RefusedRun>,
     place: &RowPlace,
     expected: Millilitres,
     refusal: Refusal,
     told: &MeterReading,
 ) -> Result<(), NoMemory>
-    ensures { OnOk result (open.new.items
-        ≡ with_refused place.now told.now expected refusal open.old.items) }
+    ensures { OnOk result (runs.new.items
+        ≡ with_refused place.now told.now expected refusal runs.old.items) }
 {
-    match find_run(open, told) {
+    match find_run(runs, told) {
         Some(found) => {
-            let run = &mut open[found];
+            let run = &mut runs[found];
             run.go_on(place, told, refusal);
         }
-        None => open.push(RefusedRun::begin(place, told, expected, refusal))?,
+        None => runs.push(RefusedRun::begin(place, told, expected, refusal))?,
     }
     Ok(())
 }
 
 /// The place of the open run of this reading's nozzle, if it has one.
-fn find_run(open: &[RefusedRun], told: &MeterReading) -> Option<usize>
-    ensures { result ≡ run_place told.now.point told.now.nozzle open.now }
+fn find_run(runs: &[RefusedRun], told: &MeterReading) -> Option<usize>
+    ensures { result ≡ run_place told.now.point told.now.nozzle runs.now }
 {
-    for (place, run) in open.iter().enumerate() {
+    for (place, run) in runs.iter().enumerate() {
         if run.is_of_nozzle(told.point, told.nozzle) {
             return Some(place);
         }

@@ -1,13 +1,15 @@
-//! The commands that open no site for a day: `check`, `replay`, `report`, `sales`, `explain` and
-//! `spell`. They read a site file or standard input, print, and end.
+//! The commands that open no site for a day: `check`, `replay`, `report`, `sales`, `meters`,
+//! `explain` and `spell`. They read a site file or standard input, print, and end.
 //!
 //! Each `run_..` takes what the command line says and gives the status that the program exits
-//! with. What a command does stands in `forecourt_engines`, `day_report` and `sales_table`.
+//! with. What a command does stands in `forecourt_engines`, `day_report`, `sales_table` and
+//! `meter_table`.
 #![tactic(auto)]
 
 mod check;
 mod explain;
 mod history_option;
+mod meters;
 mod named_site;
 mod replay;
 mod report;
@@ -17,6 +19,7 @@ mod spell;
 
 pub use check::run_check;
 pub use explain::run_explain;
+pub use meters::run_meters;
 pub use replay::{run_replay, run_replay_here};
 pub use report::run_report;
 pub use sales::run_sales;

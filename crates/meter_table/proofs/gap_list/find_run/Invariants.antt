@@ -4,5 +4,5 @@ use Rattle.meter_table.proofs.gap_list.find_run.Given as goal
 
 -- the run's place is counted from here
 abbrev pub invariant-loop-place : goal.invariant-loop-place
-invariant-loop-place l = run_place l.told.point l.told.nozzle l.open
-    ≡ option_map (λ i. i + l.place) (run_place l.told.point l.told.nozzle (drop l.place l.open))
+invariant-loop-place l = run_place l.told.point l.told.nozzle l.runs
+    ≡ option_map (λ i. i + l.place) (run_place l.told.point l.told.nozzle (drop l.place l.runs))
