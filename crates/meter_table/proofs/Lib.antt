@@ -5,3 +5,4 @@ pub mod Lines
 pub mod Runs
 pub mod GapRows
 pub mod MoreLines
+pub mod GapLines

@@ -21,6 +21,9 @@ pub use form::Form;
 pub use gap::{MeterReading, RefusedRun, Replacement, RowPlace};
 pub use gap_list::GapList;
 pub use gap_reader::GapReader;
-pub use laws::{each_line_adds_up, each_whole_line_adds_up};
+pub use laws::{
+    each_line_adds_up, each_refused_reading_has_a_run, each_replacement_has_a_line,
+    each_whole_line_adds_up, no_gap_is_lost,
+};
 pub use meter_reader::MeterReader;
 pub use tables::{figures_table, gaps_table};

@@ -7,9 +7,9 @@
 #![tactic(auto)]
 
 mod check;
+mod counters;
 mod explain;
 mod history_option;
-mod meters;
 mod named_site;
 mod replay;
 mod report;
@@ -18,8 +18,8 @@ mod silent;
 mod spell;
 
 pub use check::run_check;
+pub use counters::run_meters;
 pub use explain::run_explain;
-pub use meters::run_meters;
 pub use replay::{run_replay, run_replay_here};
 pub use report::run_report;
 pub use sales::run_sales;

@@ -3,7 +3,7 @@
 //! `verify`, which reads each row and says where the history ends.
 #![tactic(auto)]
 
-mod meters;
+mod counters;
 mod options;
 mod output;
 mod past_row;
@@ -18,7 +18,7 @@ mod story;
 mod times;
 mod verify;
 
-pub use meters::run_meters_folder;
+pub use counters::run_meters_folder;
 pub use report::run_report_folder;
 pub use rows::{run_explain_folder, run_replay_folder};
 pub use sales::run_sales_folder;
