@@ -121,7 +121,7 @@ def worked_day():
 
 @test
 def worked_day_as_json():
-    """The same as JSON: a number for each figure, null for what isn't there. CSV comes before it."""
+    """The same as JSON: null for what isn't there. CSV comes before it."""
     given = spell(DAY)
     objects = [json.loads(line) for line in count(given, "--json").splitlines()]
     wanted = [
@@ -195,7 +195,8 @@ def faults():
     ended = run(PROGRAM, "meters", SITE, "--shift", "1", given=given)
     expect("a shift of a text", (ended.status, ended.out), (2, b""))
     expect("why", ended.err, "error: '--shift' is for the folder of a history\n")
-    ended = run(PROGRAM, "meters", SITE, given=f"# witsomar journal of site {'12' * 32}\n".encode() + given)
+    first = f"# witsomar journal of site {'12' * 32}\n".encode()
+    ended = run(PROGRAM, "meters", SITE, given=first + given)
     expect("another site", (ended.status, ended.out), (1, b""))
     expect("that it is another's", ended.err, "journal of another site\n")
 
@@ -374,9 +375,8 @@ class RandomDay:
             self.add(chance.choice((1, 2)), chance.choice((1, 1, 2)))
 
     def add(self, p, n):
-        kind = self.chance.choice(
-            "sell sell sell test release lift flow hang replace offline terminate clear close".split()
-        )
+        kinds = "sell sell sell test release lift flow hang replace offline terminate clear close"
+        kind = self.chance.choice(kinds.split())
         if kind in ("sell", "test"):
             self.words.append(f"t1 {'Release' if kind == 'sell' else 'TestRelease'} {p}")
             self.report("Lift", p, n, 0)

@@ -24,7 +24,8 @@ mod word_commands;
 
 pub use command::{
     AskOptions, Command, DemoOptions, ExplainOptions, MetersForm, MetersOptions, ReplayOptions,
-    ReportForm, ReportOptions, SalesOptions, ServeOptions, ShiftsOptions, StationOptions, StoryOptions, VerifyOptions,
+    ReportForm, ReportOptions, SalesOptions, ServeOptions, ShiftsOptions, StationOptions,
+    StoryOptions, VerifyOptions,
 };
 pub use no_command::NoCommand;
 pub use parsing::parse;

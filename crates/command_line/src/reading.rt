@@ -6,7 +6,8 @@ ghost use Rattle.command_line.specs.Commands.{HasFlag, IsOption, IsSaid, IsSaidB
 
 use crate::command::{
     AskOptions, Command, DemoOptions, ExplainOptions, MetersForm, MetersOptions, ReplayOptions,
-    ReportForm, ReportOptions, SalesOptions, ServeOptions, ShiftsOptions, StationOptions, StoryOptions, VerifyOptions,
+    ReportForm, ReportOptions, SalesOptions, ServeOptions, ShiftsOptions, StationOptions,
+    StoryOptions, VerifyOptions,
 };
 use clap::ArgMatches;
 

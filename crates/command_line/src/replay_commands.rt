@@ -96,6 +96,9 @@ fn meters<'a>(alloc: Global) -> Result<Command<'a>, AllocError>
     let command = add_argument(command, site_or_history(alloc))?;
     let command = add_argument(command, flag(alloc, "gaps", gaps))?;
     let command = add_argument(command, flag(alloc, "csv", "Prints comma-separated values"))?;
-    let command = add_argument(command, flag(alloc, "json", "Prints an object of JSON a line"))?;
+    let command = add_argument(
+        command,
+        flag(alloc, "json", "Prints an object of JSON a line"),
+    )?;
     add_argument(command, shift(alloc))
 }

@@ -1,27 +1,25 @@
 -- Each gap has its line, and keeps it.
-use Rattle.std.proofs.Common.{◌≡◌, ◌⊎◌, inl, inr, ℕ, Bool, true, false, List, [], ◌∷◌, ◌++◌, Option}
-use Rattle.std.proofs.Common.{Some, None, refl, ap, sym, ◌∙◌, append-nil, subst, ◌==◌, ◌&&◌}
+use Rattle.std.proofs.Common.{◌≡◌, inl, inr, ℕ, Bool, true, false, List, [], ◌∷◌, ◌++◌, Option}
+use Rattle.std.proofs.Common.{Some, None, refl, ap, sym, ◌∙◌, append-nil, subst, ◌==◌}
 use Rattle.std.specs.Prelude.{if◌then◌else◌}
 use Rattle.std.specs.List.{cons_option}
-use Rattle.std.proofs.lemmas.Bool.{and_parts, false≢true}
+use Rattle.std.proofs.lemmas.Bool.{and_parts}
 use Rattle.site_base.specs.declared.actor.Actor.{Actor}
 use Rattle.site_base.specs.declared.actor.Actor.TheVariants.{Till}
 use Rattle.site_base.specs.declared.event.Event.{Event}
-use Rattle.site_base.specs.declared.event.Event.TheVariants.{ReplaceMeter}
 use Rattle.site_base.specs.declared.refusal.Refusal.{Refusal}
 use Rattle.site_base.specs.declared.row.Row.{Row}
 use Rattle.meters.specs.Nozzles.{reading_of}
 use Rattle.written_site.specs.SiteChecks.{first_refusal}
 use Rattle.written_site.specs.SiteState.{SiteState}
-use Rattle.written_site.proofs.SoundTables.{itself, same}
+use Rattle.written_site.proofs.SoundTables.{same}
 use Rattle.meter_table.specs.declared.gap.MeterReading.{MeterReading}
 use Rattle.meter_table.specs.declared.gap.RefusedRun.{RefusedRun}
-use Rattle.meter_table.specs.declared.gap.Replacement.{Replacement}
 use Rattle.meter_table.specs.declared.gap.RowPlace.{RowPlace}
 use Rattle.meter_table.specs.Figures.{is_of_meter}
 use Rattle.meter_table.specs.Gaps.{Gaps, gaps_accepted, gaps_read, gaps_refused, gaps_told}
 use Rattle.meter_table.specs.Gaps.{gaps_with, is_of_nozzle, reading_told, replacement_told}
-use Rattle.meter_table.specs.Gaps.{run_begun, run_longer, run_settled, settled_run}
+use Rattle.meter_table.specs.Gaps.{run_longer, run_settled, settled_run}
 use Rattle.meter_table.specs.Gaps.{with_refused, without_run}
 use Rattle.meter_table.specs.Laws.{AnyRun, EachRefusedReadingHasARun, EachReplacementHasALine}
 use Rattle.meter_table.specs.Laws.{EndsWith, GoesOn, NoGapIsLost, NoLineIsLost, StaysOrIsSettled}
@@ -177,8 +175,10 @@ settled_joined row run before settled unsettled (inr any) =
 once_accepted : (place : RowPlace) (s : SiteState) (r : Row) (g : Gaps) (x : MeterReading)
     (old : ℕ) → gaps_with place s r g ≡ gaps_accepted place old r x g → NoLineIsLost place s r g
 once_accepted place s r g x old is = record {
-  replaced = (cons_option (replacement_told place old r.actor r.event) [],
-      ap (λ (h : Gaps). h.replaced) is);
+  replaced = (
+    cons_option (replacement_told place old r.actor r.event) [],
+    ap (λ (h : Gaps). h.replaced) is,
+  );
   settled = (settled_run place.row x.point x.nozzle g.unsettled, ap (λ (h : Gaps). h.settled) is);
   unsettled = λ run there. subst (λ (h : Gaps).
       StaysOrIsSettled place.row run h.settled h.unsettled) (sym is)

@@ -1,15 +1,15 @@
 -- Each line adds up.
-use Rattle.std.proofs.Common.{◌≡◌, ℕ, ◌+◌, ◌==◌, Bool, true, false, List, [], ◌∷◌, map, refl, ap, sym}
+use Rattle.std.proofs.Common.{◌≡◌, ℕ, ◌==◌, List, [], ◌∷◌, map, refl, ap}
 use Rattle.std.proofs.Common.{◌∙◌, arith}
 use Rattle.std.specs.Prelude.{if◌then◌else◌}
 use Rattle.std.specs.List.{AllByRecursion}
 use Rattle.site_base.specs.declared.row.Row.{Row}
 use Rattle.site_base.specs.Configured.{Configured}
-use Rattle.fuelling_point.specs.KeptPoints.{Facts, is_under_way}
-use Rattle.meters.specs.Nozzles.{Nozzle, opening_nozzles, reading_of}
+use Rattle.fuelling_point.specs.KeptPoints.{Facts}
+use Rattle.meters.specs.Nozzles.{Nozzle, opening_nozzles}
 use Rattle.written_site.specs.SiteRun.{events_of}
-use Rattle.written_site.specs.SiteState.{SiteState, facts_of, opening}
-use Rattle.written_site.specs.Sound.{IsFit, Sound}
+use Rattle.written_site.specs.SiteState.{SiteState, opening}
+use Rattle.written_site.specs.Sound.{Sound}
 use Rattle.written_site.specs.SoundRuns.{AreInRange}
 use Rattle.written_site.specs.Volumes.{nozzle_out, running_at}
 use Rattle.written_site.proofs.PointAfter.{opens_closed}
@@ -28,9 +28,10 @@ lines_add_up : (s : SiteState) (rows : List Row) (xs : List Nozzle) → Sound s
     → AllByRecursion (LineAddsUp s) (map (figures_of s rows) xs)
 lines_add_up s rows [] sound range are = tt
 lines_add_up s rows (x ∷ xs) sound range are =
-    let law = each_nozzle_adds_up s rows x.point x.number sound range are.0 in
-    (record { counter = law.counter; volumes = law.volumes },
-    lines_add_up s rows xs sound range are.1)
+    let law = each_nozzle_adds_up s rows x.point x.number sound range are.0 in (
+      record { counter = law.counter; volumes = law.volumes },
+      lines_add_up s rows xs sound range are.1,
+    )
 
 pub each_line_adds_up : EachLineAddsUp
 each_line_adds_up = λ c s rows sound range are.
@@ -47,9 +48,10 @@ whole_lines : (c : Configured) (xs : List NozzleFigures)
     → AllByRecursion (LineAddsUp (opening c)) xs → AllByRecursion WholeLineAddsUp xs
 whole_lines c [] all = tt
 whole_lines c (x ∷ xs) all =
-    let none = none_under_way c x.point x.nozzle in
-    (record { counter = all.0.counter; volumes = omega (arith, all.0.volumes, none) },
-    whole_lines c xs all.1)
+    let none = none_under_way c x.point x.nozzle in (
+      record { counter = all.0.counter; volumes = omega (arith, all.0.volumes, none) },
+      whole_lines c xs all.1,
+    )
 
 pub each_whole_line_adds_up : EachWholeLineAddsUp
 each_whole_line_adds_up = λ c rows fit range.

@@ -1,34 +1,30 @@
 -- What one row does at a nozzle, told by the readings and the fuelling before and after it.
-use Rattle.std.proofs.Common.{◌≡◌, ◌⊎◌, inl, inr, ℕ, ◌+◌, ◌-◌, ◌*◌, ◌≤◌, ◌==◌, ◌&&◌, Bool, true, false}
-use Rattle.std.proofs.Common.{List, [], ◌∷◌, Option, Some, None, refl, ap, sym, ◌∙◌, arith, subst}
+use Rattle.std.proofs.Common.{◌≡◌, ℕ, ◌+◌, ◌-◌, ◌≤◌, ◌==◌, ◌&&◌, Bool, true, false}
+use Rattle.std.proofs.Common.{List, [], ◌∷◌, Option, Some, None, refl, ap, sym, ◌∙◌, arith}
 use Rattle.std.specs.Prelude.{if◌then◌else◌, is_none, is_ok, option_map, unwrap_or}
 use Rattle.std.proofs.lemmas.Bool.{and_parts, false≢true}
 use Rattle.std.proofs.lemmas.Bool.Decides.{nat_tests}
 use Rattle.std.proofs.lemmas.Grind.{common_steps}
 use Rattle.site_base.specs.declared.actor.Actor.{Actor}
-use Rattle.site_base.specs.declared.amounts.TheConstants.{GREATEST_READING}
-use Rattle.site_base.specs.declared.answer.Answer.{Answer}
 use Rattle.site_base.specs.declared.event.Event.{Event}
-use Rattle.site_base.specs.declared.event.Event.TheVariants.{Flow, HangUp, Lift, ReplaceMeter}
+use Rattle.site_base.specs.declared.event.Event.TheVariants.{Flow, HangUp, ReplaceMeter}
 use Rattle.site_base.specs.declared.refusal.Refusal.{Refusal}
 use Rattle.site_base.specs.declared.row.Row.{Row}
 use Rattle.site_base.specs.Checks.{reply_or, value_or}
-use Rattle.site_base.specs.Events.{point_named, reading_carried}
+use Rattle.site_base.specs.Events.{point_named}
 use Rattle.fuelling_point.specs.declared.event.PointEvent.{PointEvent}
 use Rattle.fuelling_point.specs.KeptPoints.{Facts, is_under_way}
 use Rattle.fuelling_point.specs.Laws.{drawn_in, sold_in}
-use Rattle.fuelling_point.specs.PointChecks.{refusal_of}
 use Rattle.fuelling_point.specs.Step.{step_of}
 use Rattle.meters.specs.Nozzles.{Nozzle, has_nozzle, nozzle_of, reading_of, replaced_at, read_at}
 use Rattle.meters.specs.Nozzles.{times_replaced, with_nozzle}
 use Rattle.meters.proofs.Lookups.{KeepsName, nozzle_of-here, nozzle_of-other, there}
 use Rattle.written_site.specs.MeterLaws.{is_its, read_said, replace_said}
 use Rattle.written_site.specs.SiteChecks.{first_refusal, own_event}
-use Rattle.written_site.specs.SiteState.{SiteState, facts_in, facts_of}
-use Rattle.written_site.specs.SiteStep.{accepted_site, nozzles_after, points_after, reply_to}
+use Rattle.written_site.specs.SiteState.{SiteState, facts_of}
+use Rattle.written_site.specs.SiteStep.{accepted_site, nozzles_after, reply_to}
 use Rattle.written_site.specs.SiteStep.{site_after, site_answer, step_by}
 use Rattle.written_site.specs.Sound.{InRange, Sound}
-use Rattle.written_site.specs.SoundSteps.{drawn_at, sold_at}
 use Rattle.written_site.specs.Volumes.{nozzle_out, running_at}
 use Rattle.written_site.proofs.FuellingMoves.{own_named}
 use Rattle.written_site.proofs.PassedChecks.{passed}
@@ -41,7 +37,7 @@ use Rattle.nozzle_figures.specs.NozzleMoves.{by_nozzle, drawing, falling, flowin
 use Rattle.nozzle_figures.specs.NozzleMoves.{is_out, of_accepted, rising, running_by_nozzle}
 use Rattle.nozzle_figures.specs.NozzleMoves.{selling}
 use Rattle.nozzle_figures.proofs.NozzleMoves.{each_nozzle_adds_up, none_of, nothing_by}
-use Rattle.meter_table.specs.Counting.{is_of_point, is_replaced_in, is_test_at}
+use Rattle.meter_table.specs.Counting.{is_of_point}
 use Rattle.meter_table.specs.Figures.{is_of_meter, refusal_told, refused_in, refused_reading}
 use Rattle.meter_table.specs.Figures.{replacing}
 

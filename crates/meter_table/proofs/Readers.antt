@@ -1,11 +1,11 @@
 -- What the figures always are stays so with each row, and a row that is counted is the row's own.
 use Rattle.std.proofs.Common.{◌≡◌, ℕ, ◌+◌, ◌-◌, ◌*◌, ◌^◌, ◌<◌, ◌≤◌, ◌==◌, ◌&&◌, Bool, true, false}
-use Rattle.std.proofs.Common.{List, [], ◌∷◌, ◌++◌, length, map, min, Option, Some, None, refl, ap, sym}
-use Rattle.std.proofs.Common.{◌∙◌, add-one, append_assoc, drop, get_or, subst, arith}
+use Rattle.std.proofs.Common.{List, [], ◌∷◌, ◌++◌, length, map, min, Option, Some, None, refl, ap}
+use Rattle.std.proofs.Common.{sym, ◌∙◌, add-one, append_assoc, drop, get_or, subst, arith}
 use Rattle.std.proofs.Math.Seq.{drop-cons}
 use Rattle.std.proofs.lemmas.List.{map-append}
 use Rattle.std.specs.Prelude.{if◌then◌else◌, is_none, is_ok, is_some}
-use Rattle.std.specs.List.{AllByRecursion, cons_option}
+use Rattle.std.specs.List.{cons_option}
 use Rattle.site_base.specs.declared.amounts.TheConstants.{GREATEST_READING}
 use Rattle.site_base.specs.declared.config.PointEntry.{PointEntry}
 use Rattle.site_base.specs.declared.row.Row.{Row}
@@ -13,7 +13,7 @@ use Rattle.site_base.specs.Configured.{Configured}
 use Rattle.site_base.specs.Events.{point_named}
 use Rattle.fuelling_point.specs.KeptPoints.{is_under_way}
 use Rattle.meters.specs.declared.meter.TheConstants.{REPLACEMENT_LIMIT}
-use Rattle.meters.specs.Nozzles.{EachMetered, Nozzle, has_nozzle, is_nozzle, nozzle_of}
+use Rattle.meters.specs.Nozzles.{Nozzle, has_nozzle, is_nozzle, nozzle_of}
 use Rattle.meters.specs.Nozzles.{nozzles_of_point, nozzles_of_points, opening_nozzles, reading_of}
 use Rattle.meters.specs.Nozzles.{times_replaced}
 use Rattle.meters.proofs.Bounds.{each_found}
@@ -29,16 +29,16 @@ use Rattle.written_site.proofs.Histories.{site_of_rows-push}
 use Rattle.written_site.proofs.Sound.{sound_after}
 use Rattle.written_site.proofs.SoundTables.{itself, same}
 use Rattle.nozzle_figures.specs.Laws.{AddsUp}
-use Rattle.nozzle_figures.specs.NozzleMoves.{drawing, falling, flowing, of_accepted, rising}
-use Rattle.nozzle_figures.specs.NozzleMoves.{running_by_nozzle, selling}
+use Rattle.nozzle_figures.specs.NozzleMoves.{flowing, of_accepted}
+use Rattle.nozzle_figures.specs.NozzleMoves.{running_by_nozzle}
 use Rattle.nozzle_figures.proofs.NozzleMoves.{each_nozzle_adds_up}
 use Rattle.meter_table.specs.declared.figures.NozzleFigures.{NozzleFigures}
 use Rattle.meter_table.specs.Counting.{AreCountable, AreThere, AreWithin, HaveRoom, IsCountable}
 use Rattle.meter_table.specs.Counting.{IsWithin, begun, counted, counted_at, flowed, is_of_point}
 use Rattle.meter_table.specs.Counting.{is_replaced_in, is_test_at, with_row}
-use Rattle.meter_table.specs.Figures.{HasRead, MetersRead, all_figures, figures_of, greatest}
-use Rattle.meter_table.specs.Figures.{is_of_meter, refused_in}
-use Rattle.meter_table.specs.Figures.{refused_reading, replacing}
+use Rattle.meter_table.specs.Figures.{HasRead, MetersRead, figures_of, greatest}
+use Rattle.meter_table.specs.Figures.{is_of_meter}
+use Rattle.meter_table.specs.Figures.{refused_reading}
 use Rattle.meter_table.proofs.OneRow.{RowMoves, accepted_told, leaves_nozzle, refused_told}
 use Rattle.meter_table.proofs.OneRow.{row_moves, stays_there, times_after}
 use Rattle.meter_table.proofs.Rows.{figures_next}
@@ -64,14 +64,45 @@ have_room s x sound within =
     let reads = readable x.point x.nozzle s sound within.there in
     let times = few_times x.point x.nozzle s sound within.there in
     record {
-      metered = omega (arith, reads, times, within.closing, within.counter, within.few,
-          within.lowered);
-      sold = omega (arith, reads, times, within.closing, within.counter, within.few,
-          within.lowered, within.volumes);
-      drawn = omega (arith, reads, times, within.closing, within.counter, within.few,
-          within.lowered, within.volumes);
-      running = omega (arith, reads, times, within.closing, within.counter, within.few,
-          within.lowered, within.volumes);
+      metered = omega (
+        arith,
+        reads,
+        times,
+        within.closing,
+        within.counter,
+        within.few,
+        within.lowered,
+      );
+      sold = omega (
+        arith,
+        reads,
+        times,
+        within.closing,
+        within.counter,
+        within.few,
+        within.lowered,
+        within.volumes,
+      );
+      drawn = omega (
+        arith,
+        reads,
+        times,
+        within.closing,
+        within.counter,
+        within.few,
+        within.lowered,
+        within.volumes,
+      );
+      running = omega (
+        arith,
+        reads,
+        times,
+        within.closing,
+        within.counter,
+        within.few,
+        within.lowered,
+        within.volumes,
+      );
       replaced = omega (arith, times, within.few);
       raised = omega (arith, times, within.few, within.raised);
       lowered = omega (arith, times, within.few, within.lowered);
@@ -96,7 +127,8 @@ under_way_within p n s sound has = by_test (nozzle_out (facts_of s p) == n) refl
     by_test true out =
         subst (λ (m : ℕ). (if is_under_way (facts_of s p).state
         then reading_of p m s.nozzles - (facts_of s p).start else 0) ≤ GREATEST_READING)
-        (sym (same (nozzle_out (facts_of s p)) n out)) (by_state (is_under_way (facts_of s p).state))
+        (sym (same (nozzle_out (facts_of s p)) n out))
+        (by_state (is_under_way (facts_of s p).state))
     by_test false out = omega arith
 
 pub opening_within : (s : SiteState) (xs : List Nozzle) → Sound s → AreThere s.nozzles xs
@@ -104,40 +136,42 @@ pub opening_within : (s : SiteState) (xs : List Nozzle) → Sound s → AreThere
 opening_within s [] sound are = tt
 opening_within s (x ∷ xs) sound are =
     let reads = readable x.point x.number s sound are.0 in
-    let under_way = under_way_within x.point x.number s sound are.0 in
-    (record {
-      there = are.0;
-      closing = refl;
-      running = refl;
-      begun = reads;
-      counter = omega arith;
-      volumes = omega (arith, under_way);
-      few = omega arith;
-      raised = omega arith;
-      lowered = omega arith;
-      refused = omega arith;
-    },
-    opening_within s xs sound are.1)
+    let under_way = under_way_within x.point x.number s sound are.0 in (
+      record {
+        there = are.0;
+        closing = refl;
+        running = refl;
+        begun = reads;
+        counter = omega arith;
+        volumes = omega (arith, under_way);
+        few = omega arith;
+        raised = omega arith;
+        lowered = omega arith;
+        refused = omega arith;
+      },
+      opening_within s xs sound are.1,
+    )
 
 pub begun_within : (s : SiteState) (xs : List NozzleFigures) → Sound s → AreWithin s xs
     → AreWithin s (map begun xs)
 begun_within s [] sound within = tt
 begun_within s (x ∷ xs) sound within =
     let reads = readable x.point x.nozzle s sound within.0.there in
-    let under_way = under_way_within x.point x.nozzle s sound within.0.there in
-    (record {
-      there = within.0.there;
-      closing = within.0.closing;
-      running = within.0.running;
-      begun = omega (arith, reads, within.0.closing);
-      counter = omega arith;
-      volumes = omega (arith, under_way, within.0.running);
-      few = omega arith;
-      raised = omega arith;
-      lowered = omega arith;
-      refused = omega arith;
-    },
-    begun_within s xs sound within.1)
+    let under_way = under_way_within x.point x.nozzle s sound within.0.there in (
+      record {
+        there = within.0.there;
+        closing = within.0.closing;
+        running = within.0.running;
+        begun = omega (arith, reads, within.0.closing);
+        counter = omega arith;
+        volumes = omega (arith, under_way, within.0.running);
+        few = omega arith;
+        raised = omega arith;
+        lowered = omega arith;
+        refused = omega arith;
+      },
+      begun_within s xs sound within.1,
+    )
 
 -- ---- one row
 
@@ -365,9 +399,10 @@ pub all_countable : (s : SiteState) (r : Row) (named : Option ℕ) (xs : List No
     → Sound s → InRange r.event → r.reply ≡ reply_to s r.actor r.event → AreWithin s xs
     → AreCountable named (site_after s r.actor r.event) r xs
 all_countable s r named [] sound range replies within = tt
-all_countable s r named (x ∷ xs) sound range replies within =
-    (λ own. is_countable s r x sound range replies within.0,
-    all_countable s r named xs sound range replies within.1)
+all_countable s r named (x ∷ xs) sound range replies within = (
+  λ own. is_countable s r x sound range replies within.0,
+  all_countable s r named xs sound range replies within.1,
+)
 
 -- ---- what a reader has read
 
@@ -429,10 +464,11 @@ found_in (y ∷ before) x after =
 
 pub all_there : (before xs : List Nozzle) → AreThere (before ++ xs) xs
 all_there before [] = tt
-all_there before (x ∷ xs) =
-    (found_in before x xs,
-    subst (λ (ys : List Nozzle). AreThere ys xs) (append_assoc before (x ∷ []) xs)
-    (all_there (before ++ x ∷ []) xs))
+all_there before (x ∷ xs) = (
+  found_in before x xs,
+  subst (λ (ys : List Nozzle). AreThere ys xs) (append_assoc before (x ∷ []) xs)
+      (all_there (before ++ x ∷ []) xs),
+)
 
 pub opening_there : (s : SiteState) (c : Configured) (points : List PointEntry) → s ≡ opening c
     → points ≡ c.points → AreThere s.nozzles (nozzles_of_points points)

@@ -1,6 +1,6 @@
 -- Figures over rows, with one row more.
-use Rattle.std.proofs.Common.{◌≡◌, ℕ, ◌+◌, ◌-◌, ◌^◌, ◌<◌, ◌≤◌, List, [], ◌∷◌, ◌++◌, length, map, min}
-use Rattle.std.proofs.Common.{Option, Some, None, refl, ap, sym, ◌∙◌, append_assoc, arith}
+use Rattle.std.proofs.Common.{◌≡◌, ℕ, ◌+◌, ◌-◌, ◌^◌, List, [], ◌∷◌, ◌++◌, length, min}
+use Rattle.std.proofs.Common.{Option, Some, None, refl, ap, sym, ◌∙◌, arith}
 use Rattle.std.specs.List.{cons_option}
 use Rattle.std.proofs.lemmas.Grind.{common_steps}
 use Rattle.site_base.specs.declared.event.Event.{Event}
@@ -13,8 +13,8 @@ use Rattle.written_site.proofs.Histories.{site_of_rows-push}
 use Rattle.nozzle_figures.specs.NozzleMoves.{drawing, falling, flowing, of_accepted, rising}
 use Rattle.nozzle_figures.specs.NozzleMoves.{running_by_nozzle, selling, sum_over}
 use Rattle.meter_table.specs.declared.figures.NozzleFigures.{NozzleFigures}
-use Rattle.meter_table.specs.Counting.{begun, with_row}
-use Rattle.meter_table.specs.Figures.{HasRead, MetersRead, all_figures, count_of, figures_of}
+use Rattle.meter_table.specs.Counting.{with_row}
+use Rattle.meter_table.specs.Figures.{count_of, figures_of}
 use Rattle.meter_table.specs.Figures.{greatest, higher, refused_reading, refused_readings}
 use Rattle.meter_table.specs.Figures.{replacing}
 
@@ -93,7 +93,7 @@ figures_next s rows r x =
     let later = site_after here r.actor r.event in
     let leads : later ≡ site_of_rows s (rows ++ r ∷ []) = sym (site_of_rows-push s rows r) in
     let over : (f : SiteState → Event → ℕ)
-        → sum_over f s rows + of_accepted f here r ≡ sum_over f s (rows ++ r ∷ []) =
+    → sum_over f s rows + of_accepted f here r ≡ sum_over f s (rows ++ r ∷ []) =
     λ f. sym (sum_over-next f s rows r) in
     let refusals = sym (refused_readings-next p n s rows r) in
     let more = cons_option (refused_reading p n here r) [] in

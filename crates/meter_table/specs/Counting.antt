@@ -60,8 +60,8 @@ flowed replaced reading x = if replaced then 0 else reading - x.closing
 abbrev pub gone : ℕ → ℕ → NozzleFigures → ℕ
 gone flow left x = x.running + flow - left
 
--- The figures once the meter was replaced or not, reads this, and this is left in the fuelling under
--- way. What is gone from it was drawn by a test, or else sold.
+-- The figures once the meter was replaced or not, reads this, and this is left in the fuelling
+-- under way. What is gone from it was drawn by a test, or else sold.
 abbrev pub moved : Bool → Bool → ℕ → ℕ → NozzleFigures → NozzleFigures
 moved replaced test reading left x = record x {
   closing = reading;
@@ -136,8 +136,7 @@ counted_at named later r test x =
     if is_of_point named x.point then counted later r test x else x
 
 -- What a nozzle's figures always are at their site. The nozzle is there, and the figures end with
--- its reading and its fuelling under way. They add up, and none of them outgrows what its meters can
--- count.
+-- its reading and its fuelling under way. They add up, and none outgrows what its meters can count.
 pub record IsWithin (s : SiteState) (x : NozzleFigures) : Type 0 where
   pub there : has_nozzle x.point x.nozzle s.nozzles ≡ true
   pub closing : x.closing ≡ reading_of x.point x.nozzle s.nozzles

@@ -85,8 +85,8 @@ settled_run row p n (run ∷ runs) =
 
 -- ---- rows
 
--- The gaps of some rows: the replaced meters, in the order of their rows; the runs that are settled,
--- in the order of the rows that settled them; and the runs that are open.
+-- The gaps of some rows: the replaced meters, in the order of their rows; the runs that are
+-- settled, in the order of the rows that settled them; and the runs that are open.
 pub record Gaps : Type 0 where
   pub replaced : List Replacement
   pub settled : List RefusedRun

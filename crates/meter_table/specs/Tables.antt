@@ -1,7 +1,7 @@
--- The lines of the tables of nozzles and of gaps: as comma-separated values, as JSON, and for people.
-use Rattle.std.specs.Prelude.{ℕ, ◌+◌, ◌-◌, ◌*◌, ◌/◌, ◌%◌, ◌^◌, nat_le, nat_lt, negsuc, max, List, []}
-use Rattle.std.specs.Prelude.{◌∷◌, ◌++◌, ◌==◌, codes, decimal, flat_map, length, map, replicate}
-use Rattle.std.specs.Prelude.{Option, Some, None, if◌then◌else◌, slice_index_or}
+-- The lines of the tables of nozzles and of gaps: as comma-separated values and as JSON.
+use Rattle.std.specs.Prelude.{ℕ, ◌-◌, ◌^◌, nat_le, nat_lt, negsuc, List, []}
+use Rattle.std.specs.Prelude.{◌∷◌, ◌++◌, codes, decimal, flat_map}
+use Rattle.std.specs.Prelude.{Option, Some, None, if◌then◌else◌}
 use Rattle.csv.specs.Writing.{default_writer, row_text}
 use Rattle.serde_json.specs.Data.{Data, null, number, string, object, unsigned, negative}
 use Rattle.serde_json.specs.Data.{Members, member, no_members, put}

@@ -94,8 +94,8 @@ impl NozzleFigures {
         };
     }
 
-    /// Counts a row, after which the site is this one. A fuelling that was under way before it was a
-    /// test, or a sale to be.
+    /// Counts a row, after which the site is this one. A fuelling that was under way before it was
+    /// a test, or a sale to be.
     pub(crate) fn count(&mut self, site: &Site, row: &Row, test: bool)
         requires { IsCountable site.now.site row.now self.old }
         ensures { self.new ≡ counted site.now.site row.now test self.old }
@@ -110,8 +110,8 @@ impl NozzleFigures {
         }
     }
 
-    /// Counts what moved by the nozzle: its meter was replaced or not, and reads this, and so much is
-    /// left in the fuelling under way.
+    /// Counts what moved by the nozzle: its meter was replaced or not, and reads this, and so much
+    /// is left in the fuelling under way.
     fn move_to(&mut self, replaced: bool, test: bool, reading: Millilitres, left: u64)
         requires room { HaveRoom self.old }
         requires above { replaced ≡ false → self.old.closing ≤ reading }
@@ -180,10 +180,7 @@ impl NozzleFigures {
             | Event::Lift(p, n, reading)
             | Event::Flow(p, n, reading)
             | Event::HangUp(p, n, reading)
-                if *p == self.point && *n == self.nozzle =>
-            {
-                Some(*reading)
-            }
+                if *p == self.point && *n == self.nozzle => { Some(*reading) }
             _ => None,
         }
     }

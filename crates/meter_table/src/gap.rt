@@ -87,8 +87,8 @@ impl MeterReading {
 }
 
 impl Replacement {
-    /// A till's replacement, in the row of this number and time, of a meter that read old by one that
-    /// begins with new.
+    /// A till's replacement, in the row of this number and time, of a meter that read old by one
+    /// that begins with the reading that is told.
     fn of(
         row: u64,
         at: Option<Stamp>,

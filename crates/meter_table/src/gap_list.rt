@@ -44,8 +44,8 @@ impl GapList {
         }
     }
 
-    /// A reading was accepted, whose meter read this before: it settles the run of its nozzle, and a
-    /// new meter has its line.
+    /// A reading was accepted, whose meter read this before: it settles the run of its nozzle, and
+    /// a new meter has its line.
     pub fn accept(
         &mut self,
         place: &RowPlace,
@@ -59,8 +59,8 @@ impl GapList {
         add_replaced(&mut self.replaced, place, old, row)
     }
 
-    /// A reading was refused, where this was expected. If its meter refused it, it stands in the run
-    /// of its nozzle.
+    /// A reading was refused, where this was expected. If its meter refused it, it stands in the
+    /// run of its nozzle.
     pub fn refuse(
         &mut self,
         place: &RowPlace,

@@ -60,7 +60,8 @@ impl MeterReader {
         Ok(MeterReader { site, figures })
     }
 
-    /// Reads the next row: each nozzle's figures have it then. After `NoMemory` nothing has changed.
+    /// Reads the next row: each nozzle's figures have it then. After `NoMemory` nothing has
+    /// changed.
     pub fn read(&mut self, row: &Row) -> Result<(), NoMemory>
         ensures read { OnOk result ((c : Configured) (start : SiteState) (rows : List RowFacts)
             → HasRead c start rows self.old → HasRead c start (rows ++ row.now ∷ []) self.new) }
@@ -160,13 +161,7 @@ fn count_row(site: &mut Site, figures: &mut [NozzleFigures], row: &Row)
 }
 
 /// Counts a row, after which the site is this one, at the nozzles of its point. No point has none.
-fn count_at(
-    site: &Site,
-    point: &Option<FpNo>,
-    row: &Row,
-    test: bool,
-    figures: &mut [NozzleFigures],
-)
+fn count_at(site: &Site, point: &Option<FpNo>, row: &Row, test: bool, figures: &mut [NozzleFigures])
     requires { AreCountable point.now site.now.site row.now figures.old }
     ensures { figures.new ≡ map (counted_at point.now site.now.site row.now test) figures.old }
 {

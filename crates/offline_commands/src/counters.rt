@@ -1,19 +1,16 @@
 //! `forecourt meters FILE [--gaps] [--csv | --json]`.
 
-ghost use Rattle.std.specs.Prelude.{◌≡◌};
-
 use crate::history_option::refuse_option;
 use crate::named_site::open_input;
+use crate::output::print_text;
 use crate::silent::{ends_its_text, replay_silently};
 use command_line::{MetersForm, MetersOptions};
-use devices::{Counted, write_whole};
 use forecourt_engines::replay::ReplayEnd;
-use forecourt_engines::{ReplayFault, SiteBook};
+use forecourt_engines::SiteBook;
 use meter_table::{Form, GapReader, MeterReader, RowPlace, figures_table, gaps_table};
-use program_io::{TURNS, exit_no_memory, exit_replay};
+use program_io::{exit_no_memory, exit_replay};
 use site_base::{NoMemory, SiteConfig};
 use std::alloc::Global;
-use std::io;
 use std::io::Read;
 use std::process::ExitCode;
 use std::rt::Files;
@@ -102,13 +99,4 @@ fn read_gaps(alloc: Global, book: &SiteBook) -> Result<GapReader, NoMemory> {
         }
     }
     Ok(reader)
-}
-
-/// Prints a text; the fault of its write, if it fails.
-fn print_text(rt: &impl Print, text: &[u8]) -> Option<ReplayFault> {
-    let (mut writer, mut turns) = (Counted::new(io::writer(rt)), TURNS);
-    match write_whole(&mut writer, text, &mut turns) {
-        Ok(()) => None,
-        Err(fault) => Some(ReplayFault::Write(fault)),
-    }
 }

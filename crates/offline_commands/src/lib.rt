@@ -11,6 +11,7 @@ mod counters;
 mod explain;
 mod history_option;
 mod named_site;
+mod output;
 mod replay;
 mod report;
 mod sales;

@@ -1,6 +1,5 @@
-use Rattle.std.proofs.Common.{◌∙◌, ◌++◌, ◌∷◌, [], ap, arith, length, sym, rules}
+use Rattle.std.proofs.Common.{◌∙◌, ◌++◌, ◌∷◌, [], ap, arith, length, sym}
 use Rattle.std.proofs.lemmas.List.{append-nil}
-use Rattle.meter_table.specs.declared.gap.RefusedRun.{RefusedRun}
 use Rattle.meter_table.specs.Gaps.{run_place, run_settled}
 use Rattle.meter_table.proofs.Runs.{no_run, run_at}
 use Rattle.meter_table.proofs.gap_list.settle.Goals as goal

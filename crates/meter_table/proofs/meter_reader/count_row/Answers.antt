@@ -1,8 +1,7 @@
-use Rattle.std.proofs.Common.{◌≡◌, ◌∙◌, Bool, List, Option, ℕ, ap, map, subst, sym}
+use Rattle.std.proofs.Common.{◌≡◌, ◌∙◌, Bool, Option, ℕ, ap, map, subst, sym}
 use Rattle.site_base.specs.declared.row.Row.{Row}
 use Rattle.site_base.specs.Events.{point_named}
 use Rattle.written_site.specs.SiteState.{SiteState}
-use Rattle.meter_table.specs.declared.figures.NozzleFigures.{NozzleFigures}
 use Rattle.meter_table.specs.Counting.{AreCountable, AreWithin, counted_at, is_test_at, with_row}
 use Rattle.meter_table.proofs.Readers.{all_countable, all_within, counted_all}
 use Rattle.meter_table.proofs.meter_reader.count_row.Goals as goal

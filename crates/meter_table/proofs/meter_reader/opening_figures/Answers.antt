@@ -1,18 +1,19 @@
-use Rattle.std.proofs.Common.{◌≡◌, ◌∙◌, ◌+◌, ◌++◌, List, [], ap, arith, drop, map, subst, sym, rules}
+use Rattle.std.proofs.Common.{◌≡◌, ◌∙◌, ◌+◌, ◌++◌, List, [], ap, drop, map, subst, sym, rules}
 use Rattle.std.proofs.lemmas.List.{append-nil, drop_all}
 use Rattle.site_base.specs.declared.config.PointEntry.{PointEntry}
-use Rattle.meters.specs.Nozzles.{Nozzle, nozzles_of_points, opening_nozzles}
-use Rattle.written_site.specs.SiteState.{SiteState}
-use Rattle.meter_table.specs.declared.figures.NozzleFigures.{NozzleFigures}
-use Rattle.meter_table.specs.Counting.{AreThere, AreWithin}
+use Rattle.meters.specs.Nozzles.{nozzles_of_points}
+use Rattle.meter_table.specs.Counting.{AreWithin}
 use Rattle.meter_table.specs.Figures.{figures_of}
 use Rattle.meter_table.proofs.Readers.{opening_there, opening_within, parts_added, parts_there}
 use Rattle.meter_table.proofs.meter_reader.opening_figures.Goals as goal
 
 pub loop-entry-init : goal.loop-entry-init
-loop-entry-init c = record { added = search rules; there = opening_there c.args.site.now.site
-    c.args.config.now c.points-entry-items.result.now c.requires
-    c.points-entry-items.ensures.value }
+loop-entry-init c = record {
+  added = search rules;
+  there = opening_there c.args.site.now.site
+      c.args.config.now c.points-entry-items.result.now c.requires
+      c.points-entry-items.ensures.value;
+}
 
 pub add_point-requires-clause-there : goal.add_point-requires-clause-there
 add_point-requires-clause-there c =

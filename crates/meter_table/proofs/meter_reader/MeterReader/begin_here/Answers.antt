@@ -1,4 +1,4 @@
-use Rattle.std.proofs.Common.{◌≡◌, ◌∙◌, ap, arith, subst, sym, map}
+use Rattle.std.proofs.Common.{◌∙◌, ap, arith, subst, sym, map}
 use Rattle.std.proofs.lemmas.List.{take_at}
 use Rattle.meter_table.specs.Counting.{AreWithin, begun}
 use Rattle.meter_table.proofs.Readers.{begun_within, read_begun}

@@ -1,4 +1,4 @@
-use Rattle.std.proofs.Common.{◌≡◌, ◌∙◌, ap, arith, sym, map}
+use Rattle.std.proofs.Common.{◌≡◌, ◌∙◌, ap, arith, map}
 use Rattle.std.proofs.lemmas.List.{take_at}
 use Rattle.written_site.specs.SiteStep.{site_after}
 use Rattle.meter_table.specs.Counting.{with_row}
