@@ -12,7 +12,8 @@ use history_folder::FolderWalk;
 use meter_table::{Form, GapReader, MeterReader, RowPlace, figures_table, gaps_table};
 use past_rows::ShiftRange;
 use program_io::{exit_no_memory, exit_replay};
-use site_base::{NoMemory, ShiftNo};
+use site_base::{NoMemory, Row, ShiftNo};
+use std::alloc::Global;
 use std::process::ExitCode;
 use std::rt::Files;
 
@@ -79,18 +80,31 @@ fn read_meters<R: Files + Eprint + AllocGlobal>(
         let Some(row) = walk.next(rt, folder)? else {
             return Ok(());
         };
-        if is_behind(shifts, before) {
-            continue;
-        }
-        if reader.read(&row).is_err() {
+        if count_row(shifts, before, walk.book().open_shift(), &row, reader).is_err() {
             return Err(exit_no_memory(rt));
-        }
-        if is_before(shifts, before) && !is_before(shifts, walk.book().open_shift()) {
-            reader.begin_here();
         }
     }
     // No history has so many rows.
     Err(exit_replay(rt, Some(ReplayFault::Read(ReadFault::TurnLimit))))
+}
+
+/// Counts a row, between these open shifts, if it isn't behind those that are asked for. Where the
+/// first of those begins, the figures begin again.
+fn count_row(
+    shifts: &Option<ShiftRange>,
+    before: ShiftNo,
+    after: ShiftNo,
+    row: &Row,
+    reader: &mut MeterReader,
+) -> Result<(), NoMemory> {
+    if is_behind(shifts, before) {
+        return Ok(());
+    }
+    reader.read(row)?;
+    if is_before(shifts, before) && !is_before(shifts, after) {
+        reader.begin_here();
+    }
+    Ok(())
 }
 
 /// Reads the gaps of the rows up to the last of these shifts, from the first row of the first one.
@@ -108,19 +122,35 @@ fn read_gaps<R: Files + Eprint + AllocGlobal>(
         let Some(told) = walk.next(rt, folder)? else {
             return Ok(());
         };
-        if is_behind(shifts, before) {
-            continue;
-        }
         let at = walk.end().time();
-        if reader.read(&RowPlace { row, at }, &told).is_err() {
+        let place = RowPlace { row, at };
+        let after = walk.book().open_shift();
+        if note_row(rt.alloc(), shifts, before, after, &place, &told, reader).is_err() {
             return Err(exit_no_memory(rt));
-        }
-        if is_before(shifts, before) && !is_before(shifts, walk.book().open_shift()) {
-            reader.begin_here(rt.alloc());
         }
     }
     // No history has so many rows.
     Err(exit_replay(rt, Some(ReplayFault::Read(ReadFault::TurnLimit))))
+}
+
+/// Notes the gaps of a row in the same way.
+fn note_row(
+    alloc: Global,
+    shifts: &Option<ShiftRange>,
+    before: ShiftNo,
+    after: ShiftNo,
+    place: &RowPlace,
+    row: &Row,
+    reader: &mut GapReader,
+) -> Result<(), NoMemory> {
+    if is_behind(shifts, before) {
+        return Ok(());
+    }
+    reader.read(place, row)?;
+    if is_before(shifts, before) && !is_before(shifts, after) {
+        reader.begin_here(alloc);
+    }
+    Ok(())
 }
 
 /// Is this shift before those that are asked for?
