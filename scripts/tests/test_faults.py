@@ -323,6 +323,8 @@ def list_days():
     for words in ([], ["--json"], ["--draws"], ["--draws", "--json"]):
         yield ["sales", FIVE_POINTS, *words], EXAMPLES / "paying_day.hex"
         yield ["sales", FIVE_POINTS, *words], EXAMPLES / "fuelling_day.hex"
+    for words in ([], ["--csv"], ["--json"], ["--gaps"], ["--gaps", "--csv"]):
+        yield ["meters", FIVE_POINTS, *words], EXAMPLES / "fuelling_day.hex"
     yield ["report", FIVE_POINTS, "--human"], EXAMPLES / "paying_day.hex"
 
 
@@ -362,6 +364,7 @@ def list_readings():
     for word, *words in (
         ["next"], ["verify"], ["verify", "--seal", "0" * 64], ["story", "1/1/1"],
         ["explain", "--times"], ["sales", "--from", "2026-01-01", "--to", "2026-12-31"],
+        ["meters", "--shift", "1"], ["meters", "--gaps", "--json"],
     ):  # fmt: skip
         yield [word, ended, *words], NOTHING
 
@@ -798,8 +801,8 @@ def fail_histories_of_station():
 
 
 FOLDER_COMMANDS = (
-    ["verify"], ["shifts"], ["sales"], ["report"], ["replay"], ["explain"], ["story", "1/1/1"],
-    ["next"],
+    ["verify"], ["shifts"], ["sales"], ["meters"], ["report"], ["replay"], ["explain"],
+    ["story", "1/1/1"], ["next"],
 )  # fmt: skip
 
 

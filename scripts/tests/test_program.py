@@ -167,7 +167,7 @@ def help_texts():
         lines = expect_help(f"{first} it knows", word)
         for text in (
             "check", "replay", "report", "serve", "station", "demo", "shifts", "next", "explain",
-            "sales", "spell", "ask", "Print help", "Print version",
+            "sales", "meters", "spell", "ask", "Print help", "Print version",
         ):
             found = any(line.startswith("  ") and text in line for line in lines)
             expect(f"{word} speaks of {text}", found, True)
@@ -208,6 +208,11 @@ def help_texts():
             "sales",
             "Prints the sales of what standard input records on the site of a file, or of a"
             " history, as CSV",
+        ),
+        (
+            "meters",
+            "Prints what was counted at each nozzle by what standard input records on the site of a"
+            " file, or by a history",
         ),
         ("spell", "Prints the requests that standard input asks for in words, in hexadecimal"),
         (
@@ -680,7 +685,7 @@ def texts_of_a_site():
         "history": "# witsomar history 1 chapter 2\n\n# site {}\n# after " + "0" * 64 + "\n",
     }
     rows = STORED.read_text()
-    for command in ("replay", "report", "sales"):
+    for command in ("replay", "report", "sales", "meters"):
         plain = forecourt(command, KNOWN_SITE, given=rows)
         for text, head in heads.items():
             name = f"{command} of a {text}"

@@ -32,6 +32,7 @@ TIME_TITLES = ",sold at,cleared at"
 PRINTS = (  # the commands, with their words
     ["replay"], ["replay", "--changes"], ["sales"], ["sales", "--json"], ["sales", "--draws"],
     ["sales", "--draws", "--json"], ["report"], ["report", "--human"], ["report", "--json"],
+    ["meters"], ["meters", "--csv"], ["meters", "--gaps", "--json"],
 )  # fmt: skip
 
 

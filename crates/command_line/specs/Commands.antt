@@ -6,6 +6,8 @@ use Rattle.std.specs.List.{All}
 use Rattle.clap.specs.Words.{Row, Text, first_of, one_of}
 use Rattle.command_line.specs.declared.command.Command.{Command}
 use Rattle.command_line.specs.declared.command.Command.TheVariants as commands
+use Rattle.command_line.specs.declared.command.MetersForm.{MetersForm}
+use Rattle.command_line.specs.declared.command.MetersForm.TheVariants as forms
 use Rattle.command_line.specs.declared.command.ReportForm.{ReportForm}
 use Rattle.command_line.specs.declared.command.ReportForm.TheVariants.{Lines, People, Json}
 
@@ -33,10 +35,17 @@ HasForm rows People = HasFlag (codes "human") rows true
 HasForm rows Json = HasFlag (codes "human") rows false × HasFlag (codes "json") rows true
 HasForm rows Lines = HasFlag (codes "human") rows false × HasFlag (codes "json") rows false
 
+-- a table of meters has this form: `--csv` comes before `--json`
+abbrev pub HasTableForm : List Row → MetersForm → Type 0
+HasTableForm rows forms.Csv = HasFlag (codes "csv") rows true
+HasTableForm rows forms.Json = HasFlag (codes "csv") rows false × HasFlag (codes "json") rows true
+HasTableForm rows forms.People =
+    HasFlag (codes "csv") rows false × HasFlag (codes "json") rows false
+
 abbrev pub command_names : List Text
 command_names =
-    codes "check" ∷ codes "replay" ∷ codes "report" ∷ codes "sales" ∷ codes "serve"
-    ∷ codes "station" ∷ codes "demo" ∷ codes "shifts" ∷ codes "next" ∷ codes "verify"
+    codes "check" ∷ codes "replay" ∷ codes "report" ∷ codes "sales" ∷ codes "meters"
+    ∷ codes "serve" ∷ codes "station" ∷ codes "demo" ∷ codes "shifts" ∷ codes "next" ∷ codes "verify"
     ∷ codes "story" ∷ codes "explain" ∷ codes "spell" ∷ codes "ask" ∷ []
 
 -- this name with these rows says this command; any other name the replay on the known site
@@ -54,6 +63,10 @@ IsSaid name rows (commands.Sales o) =
     × HasFlag (codes "draws") rows o.draws × HasFlag (codes "json") rows o.json
     × IsOption (codes "shift") rows o.shift × IsOption (codes "from") rows o.from
     × IsOption (codes "to") rows o.to
+IsSaid name rows (commands.Meters o) =
+    (name ≡ codes "meters") × (o.site.now ≡ text_in (codes "FILE") rows)
+    × HasFlag (codes "gaps") rows o.gaps × HasTableForm rows o.form
+    × IsOption (codes "shift") rows o.shift
 IsSaid name rows (commands.Serve o) =
     (name ≡ codes "serve") × (o.site.now ≡ text_in (codes "FILE") rows)
     × (o.port.now ≡ text_in (codes "port") rows) × (o.workers.now ≡ text_in (codes "workers") rows)

@@ -65,6 +65,9 @@ replay_shapes =
     ∷ command (codes "sales")
     (site_file_rule ∷ flag_rule (codes "draws") ∷ flag_rule (codes "json")
     ∷ option_rule (codes "shift") ∷ option_rule (codes "from") ∷ option_rule (codes "to") ∷ [])
+    ∷ command (codes "meters")
+    (site_file_rule ∷ flag_rule (codes "gaps") ∷ flag_rule (codes "csv") ∷ flag_rule (codes "json")
+    ∷ option_rule (codes "shift") ∷ [])
     ∷ []
 
 abbrev pub day_shapes : List Shape

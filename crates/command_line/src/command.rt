@@ -13,6 +13,8 @@ pub enum Command<'a> {
     Report(ReportOptions<'a>),
     /// `sales FILE [--draws] [--json] [--shift A[..B]] [--from T] [--to T]`
     Sales(SalesOptions<'a>),
+    /// `meters FILE [--gaps] [--csv | --json] [--shift A[..B]]`
+    Meters(MetersOptions<'a>),
     /// `serve FILE --port N --workers N --sessions N`
     Serve(ServeOptions<'a>),
     /// `station [FILE] [--port N] [--doors FOLDER] [--history FOLDER] [--page N] [--idle SECONDS]
@@ -84,6 +86,30 @@ pub struct SalesOptions<'a> {
     pub from: Option<&'a str>,
     /// Until when, for sales of a history.
     pub to: Option<&'a str>,
+}
+
+/// What `meters` is given.
+#[derive(Clone, Copy, Debug, PartialEq, Eq)]
+pub struct MetersOptions<'a> {
+    /// The name of the site file, or the folder of a history.
+    pub site: &'a str,
+    /// Prints the gaps, and not the nozzles.
+    pub gaps: bool,
+    /// How the table is written.
+    pub form: MetersForm,
+    /// The shifts of the history.
+    pub shift: Option<&'a str>,
+}
+
+/// How a table of meters is written.
+#[derive(Clone, Copy, Debug, PartialEq, Eq)]
+pub enum MetersForm {
+    /// Litres in columns, for people.
+    People,
+    /// Comma-separated values. It comes before `Json` where both are asked for.
+    Csv,
+    /// An object of JSON a line.
+    Json,
 }
 
 /// What `serve` is given.

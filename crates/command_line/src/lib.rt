@@ -23,8 +23,9 @@ mod replay_commands;
 mod word_commands;
 
 pub use command::{
-    AskOptions, Command, DemoOptions, ExplainOptions, ReplayOptions, ReportForm, ReportOptions,
-    SalesOptions, ServeOptions, ShiftsOptions, StationOptions, StoryOptions, VerifyOptions,
+    AskOptions, Command, DemoOptions, ExplainOptions, MetersForm, MetersOptions, ReplayOptions,
+    ReportForm, ReportOptions, SalesOptions, ServeOptions, ShiftsOptions, StationOptions,
+    StoryOptions, VerifyOptions,
 };
 pub use no_command::NoCommand;
 pub use parsing::parse;

@@ -5,8 +5,9 @@ ghost use Rattle.clap.specs.Words.{found_of, rows_of, subcommand_rows_of};
 ghost use Rattle.command_line.specs.Commands.{HasFlag, IsOption, IsSaid, IsSaidBy, text_in};
 
 use crate::command::{
-    AskOptions, Command, DemoOptions, ExplainOptions, ReplayOptions, ReportForm, ReportOptions,
-    SalesOptions, ServeOptions, ShiftsOptions, StationOptions, StoryOptions, VerifyOptions,
+    AskOptions, Command, DemoOptions, ExplainOptions, MetersForm, MetersOptions, ReplayOptions,
+    ReportForm, ReportOptions, SalesOptions, ServeOptions, ShiftsOptions, StationOptions,
+    StoryOptions, VerifyOptions,
 };
 use clap::ArgMatches;
 
@@ -29,6 +30,7 @@ fn read_named<'a>(name: &str, words: &ArgMatches<'a>) -> Command<'a>
         "replay" => Command::Replay(read_replay(words)),
         "report" => Command::Report(read_report(words)),
         "sales" => Command::Sales(read_sales(words)),
+        "meters" => Command::Meters(read_meters(words)),
         "serve" => Command::Serve(read_serve(words)),
         "station" => Command::Station(read_station(words)),
         "demo" => Command::Demo(read_demo(words)),
@@ -80,6 +82,24 @@ fn read_sales<'a>(words: &ArgMatches<'a>) -> SalesOptions<'a>
         shift: find_text(words, "shift"),
         from: find_text(words, "from"),
         to: find_text(words, "to"),
+    }
+}
+
+fn read_meters<'a>(words: &ArgMatches<'a>) -> MetersOptions<'a>
+    ensures { IsSaid (codes "meters") (rows_of (found_of words.now)) (Command.Meters result) }
+{
+    let form = if is_given(words, "csv") {
+        MetersForm::Csv
+    } else if is_given(words, "json") {
+        MetersForm::Json
+    } else {
+        MetersForm::People
+    };
+    MetersOptions {
+        site: read_text(words, "FILE"),
+        gaps: is_given(words, "gaps"),
+        form,
+        shift: find_text(words, "shift"),
     }
 }
 

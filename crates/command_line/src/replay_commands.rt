@@ -17,7 +17,8 @@ pub fn add_commands<'a>(alloc: Global, program: Command<'a>) -> Result<Command<'
     let program = add_command(program, check(alloc)?)?;
     let program = add_command(program, replay(alloc)?)?;
     let program = add_command(program, report(alloc)?)?;
-    add_command(program, sales(alloc)?)
+    let program = add_command(program, sales(alloc)?)?;
+    add_command(program, meters(alloc)?)
 }
 
 fn check<'a>(alloc: Global) -> Result<Command<'a>, AllocError>
@@ -79,4 +80,25 @@ fn sales<'a>(alloc: Global) -> Result<Command<'a>, AllocError>
     let command = add_argument(command, shift(alloc))?;
     let command = add_argument(command, from(alloc))?;
     add_argument(command, to(alloc))
+}
+
+fn meters<'a>(alloc: Global) -> Result<Command<'a>, AllocError>
+    ensures { IfOk result (HasShape (command (codes "meters")
+        (site_file_rule ∷ flag_rule (codes "gaps") ∷ flag_rule (codes "csv")
+        ∷ flag_rule (codes "json") ∷ option_rule (codes "shift") ∷ []))) }
+{
+    let about = "Prints what was counted at each nozzle by what standard input records on the site \
+                 of a file, or by a history";
+    let example = "Examples: forecourt meters examples/five_points.toml < examples/day.hex; \
+                   forecourt meters history --shift 3 --gaps\n";
+    let gaps = "Prints the replaced meters and the refused readings, and not the nozzles";
+    let command = start(alloc, "meters", about, example);
+    let command = add_argument(command, site_or_history(alloc))?;
+    let command = add_argument(command, flag(alloc, "gaps", gaps))?;
+    let command = add_argument(command, flag(alloc, "csv", "Prints comma-separated values"))?;
+    let command = add_argument(
+        command,
+        flag(alloc, "json", "Prints an object of JSON a line"),
+    )?;
+    add_argument(command, shift(alloc))
 }

@@ -8,12 +8,13 @@ use ask_command::run_ask;
 use command_line::{Command, ExplainOptions, NoCommand, parse};
 use desk_commands::{run_demo, run_serve};
 use offline_commands::{
-    run_check, run_explain, run_replay, run_replay_here, run_report, run_sales, run_spell,
+    run_check, run_explain, run_meters, run_replay, run_replay_here, run_report, run_sales,
+    run_spell,
 };
 use program_io::{COMMAND_LINE, exit_no_memory, exit_unwritten, exit_with, is_folder};
 use row_commands::{
-    run_explain_folder, run_replay_folder, run_report_folder, run_sales_folder, run_story,
-    run_verify,
+    run_explain_folder, run_meters_folder, run_replay_folder, run_report_folder, run_sales_folder,
+    run_story, run_verify,
 };
 use shift_commands::{run_next, run_shifts};
 use station_command::run_station;
@@ -59,6 +60,8 @@ fn run<T: Threads + Wait + Sync>(rt: &HostRuntime, threads: &T, command: Command
         Command::Report(options) => run_report(rt, input, options),
         Command::Sales(options) if is_folder(rt, options.site) => run_sales_folder(rt, options),
         Command::Sales(options) => run_sales(rt, input, options),
+        Command::Meters(options) if is_folder(rt, options.site) => run_meters_folder(rt, options),
+        Command::Meters(options) => run_meters(rt, input, options),
         Command::Serve(options) => run_serve(rt, threads, options),
         Command::Station(options) => match rt.clone() {
             Ok(errors) => run_station(rt, threads, input, errors, options),

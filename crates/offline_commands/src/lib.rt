@@ -1,14 +1,17 @@
-//! The commands that open no site for a day: `check`, `replay`, `report`, `sales`, `explain` and
-//! `spell`. They read a site file or standard input, print, and end.
+//! The commands that open no site for a day: `check`, `replay`, `report`, `sales`, `meters`,
+//! `explain` and `spell`. They read a site file or standard input, print, and end.
 //!
 //! Each `run_..` takes what the command line says and gives the status that the program exits
-//! with. What a command does stands in `forecourt_engines`, `day_report` and `sales_table`.
+//! with. What a command does stands in `forecourt_engines`, `day_report`, `sales_table` and
+//! `meter_table`.
 #![tactic(auto)]
 
 mod check;
+mod counters;
 mod explain;
 mod history_option;
 mod named_site;
+mod output;
 mod replay;
 mod report;
 mod sales;
@@ -16,6 +19,7 @@ mod silent;
 mod spell;
 
 pub use check::run_check;
+pub use counters::run_meters;
 pub use explain::run_explain;
 pub use replay::{run_replay, run_replay_here};
 pub use report::run_report;

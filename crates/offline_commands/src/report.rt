@@ -4,14 +4,15 @@ ghost use Rattle.std.specs.Prelude.{◌≡◌};
 
 use crate::history_option::refuse_option;
 use crate::named_site::open_input;
+use crate::output::print_text;
 use crate::silent::{ends_its_text, replay_silently};
 use command_line::{ReportForm, ReportOptions};
 use day_report::{report_as_json, report_for_people};
-use devices::{Counted, write_whole};
+use devices::Counted;
 use forecourt_engines::replay::ReplayEnd;
 use forecourt_engines::reporting::replay_to_report;
 use forecourt_engines::{ReplayFault, SiteBook};
-use program_io::{TURNS, exit_no_memory, exit_replay};
+use program_io::{exit_no_memory, exit_replay};
 use site_base::{NoMemory, SiteConfig};
 use std::alloc::Global;
 use std::io;
@@ -96,14 +97,5 @@ fn text_of(alloc: Global, book: &SiteBook, wanted: BookText) -> Result<Vec<u8>, 
     match wanted {
         BookText::People => report_for_people(alloc, products, &totals),
         BookText::Json => Ok(report_as_json(alloc, products, &totals, 0)?.into_bytes()),
-    }
-}
-
-/// Prints a text; the fault of its write, if it fails.
-fn print_text(rt: &impl Print, text: &[u8]) -> Option<ReplayFault> {
-    let (mut writer, mut turns) = (Counted::new(io::writer(rt)), TURNS);
-    match write_whole(&mut writer, text, &mut turns) {
-        Ok(()) => None,
-        Err(fault) => Some(ReplayFault::Write(fault)),
     }
 }

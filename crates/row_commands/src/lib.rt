@@ -1,8 +1,9 @@
-//! The commands that print of a history's rows: `replay`, `explain`, `sales` and `report` of a
-//! folder, of all its shifts or of some; `story` of one sale (`specs/Stories.antt`); and `verify`,
-//! which reads each row and says where the history ends.
+//! The commands that print of a history's rows: `replay`, `explain`, `sales`, `meters` and `report`
+//! of a folder, of all its shifts or of some; `story` of one sale (`specs/Stories.antt`); and
+//! `verify`, which reads each row and says where the history ends.
 #![tactic(auto)]
 
+mod counters;
 mod options;
 mod output;
 mod past_row;
@@ -17,6 +18,7 @@ mod story;
 mod times;
 mod verify;
 
+pub use counters::run_meters_folder;
 pub use report::run_report_folder;
 pub use rows::{run_explain_folder, run_replay_folder};
 pub use sales::run_sales_folder;

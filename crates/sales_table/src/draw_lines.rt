@@ -4,7 +4,7 @@ ghost use Rattle.std.specs.Prelude.{◌≡◌, IfOk};
 ghost use Rattle.csv.specs.Writing.{default_writer, row_text};
 ghost use Rattle.sales_table.specs.Tables.{draw_line, draw_titles};
 
-use crate::csv_line::csv_line;
+use crate::csv_fields::csv_line;
 use crate::names::name_of;
 use itoa::Buffer;
 use site_base::{NoMemory, ProductEntry};

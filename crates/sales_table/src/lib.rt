@@ -4,7 +4,7 @@
 //! history's sales have their times, and those cleared in a span of time can be asked for.
 #![tactic(auto)]
 
-mod csv_line;
+mod csv_fields;
 mod draw_lines;
 mod draw_reader;
 mod fault;
@@ -18,11 +18,13 @@ mod status_words;
 mod tables;
 mod timed_sale;
 
+pub use csv_fields::csv_line;
 pub use draw_lines::{draw_line, draw_titles};
 pub use draw_reader::DrawReader;
 pub use fault::TableFault;
 pub use form::Form;
 pub use json_line::{draw_object, sale_object};
+pub use names::name_of;
 pub use sale_lines::{sale_line, sale_titles};
 pub use sold_list::{SoldList, sale_cleared};
 pub use sold_tables::{drawn_table, sold_table};

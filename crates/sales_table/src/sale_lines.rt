@@ -4,7 +4,7 @@ ghost use Rattle.std.specs.Prelude.{◌≡◌, ◌++◌, IfOk, map};
 ghost use Rattle.csv.specs.Writing.{default_writer, row_text};
 ghost use Rattle.sales_table.specs.Tables.{decimal_if, sale_line, sale_titles};
 
-use crate::csv_line::csv_line;
+use crate::csv_fields::csv_line;
 use crate::names::name_of;
 use crate::status_words::{cleared_in, status_word, till_of};
 use itoa::Buffer;
