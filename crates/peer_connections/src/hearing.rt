@@ -20,7 +20,7 @@ impl<D: Disk, S: PeerSocket> Connections<D, S> {
         ensures moves { ReachesBy (IsHearing key) self.old.stored self.new.stored }
         ensures stream { lasts_at self.old.stored.station key ≡ true
             → HearsStream key (known_at S.remaining self.old.links.items key)
-                (known_at S.remaining self.new.links.items key) self.old.stored self.new.stored }
+            (known_at S.remaining self.new.links.items key) self.old.stored self.new.stored }
         ensures others { OthersStay key self.old.links.items self.new.links.items }
         ensures due { self.new.due ≡ self.old.due }
     {
@@ -53,7 +53,7 @@ impl<D: Disk, S: PeerSocket> Connections<D, S> {
         ensures moves { ReachesBy (IsHearing key) self.old.stored self.new.stored }
         ensures stream { lasts_at self.old.stored.station key ≡ true
             → HearsStream key (known_at S.remaining self.old.links.items key)
-                (known_at S.remaining self.new.links.items key) self.old.stored self.new.stored }
+            (known_at S.remaining self.new.links.items key) self.old.stored self.new.stored }
         ensures others { OthersStay key self.old.links.items self.new.links.items }
         ensures due { self.new.due ≡ self.old.due }
     {

@@ -22,13 +22,7 @@ impl<D: Disk, S: PeerSocket> Connections<D, S> {
     /// A peer has come over TCP. Where it gets no place, or memory is wanting, its connection is
     /// closed.
     #[tactic(auto, using(crate::proofs::Reaching::welcomed))]
-    pub fn welcome<E: Eprint>(
-        &mut self,
-        registry: &Registry,
-        rt: &E,
-        stream: S,
-        now: Instant,
-    )
+    pub fn welcome<E: Eprint>(&mut self, registry: &Registry, rt: &E, stream: S, now: Instant)
         ensures { ReachesBy (IsWelcome None) self.old.stored self.new.stored }
     {
         self.settle_or_say(registry, rt, None, stream, now);

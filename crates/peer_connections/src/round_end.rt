@@ -42,7 +42,7 @@ impl<D: Disk, S: PeerSocket> Connections<D, S> {
         ensures streams { OnOk result (length self.new.stored.station.book.rows
             ≡ length self.old.stored.station.book.rows
             → AllContinue S.contents self.old.links.items self.new.links.items
-                (λ k. owed_at self.old.stored.station k) self.new.stored) }
+            (λ k. owed_at self.old.stored.station k) self.new.stored) }
     {
         self.store()?;
         self.send_each(registry, rt, now);
@@ -65,7 +65,7 @@ impl<D: Disk, S: PeerSocket> Connections<D, S> {
         ensures streams { length self.new.stored.station.book.rows
             ≡ length self.old.stored.station.book.rows
             → AllContinue S.contents self.old.links.items self.new.links.items
-                (λ k. told_at self.old.stored k) self.new.stored }
+            (λ k. told_at self.old.stored k) self.new.stored }
     {
         for at in 0..self.due.len() {
             self.send_at(registry, rt, at, now);

@@ -26,11 +26,7 @@ pub fn unpaid_text(
 }
 
 /// The same as a value.
-fn unpaid_value(
-    alloc: Global,
-    unpaid: &[NamedSale],
-    point: Option<FpNo>,
-) -> Result<Value, NoMemory>
+fn unpaid_value(alloc: Global, unpaid: &[NamedSale], point: Option<FpNo>) -> Result<Value, NoMemory>
     ensures { IfOk result (λ value. view value ≡ unpaid_data point unpaid.now) }
 {
     let values = match point {

@@ -125,7 +125,11 @@ fn put_kinds_lines(text: &mut String, tills: u128, dispensers: u128) -> Result<(
 }
 
 /// Appends so many unpaid transactions, which come to so many cents.
-pub(crate) fn put_unpaid_lines(text: &mut String, count: u128, cents: u128) -> Result<(), AllocError>
+pub(crate) fn put_unpaid_lines(
+    text: &mut String,
+    count: u128,
+    cents: u128,
+) -> Result<(), AllocError>
     ensures { OnOk result (string_bytes text.new
         ≡ string_bytes text.old ++ unpaid_lines count cents) }
 {

@@ -9,7 +9,8 @@ ghost use Rattle.site_metrics.specs.Metrics.{points_text, rows_text, sessions_of
 ghost use Rattle.site_metrics.specs.Metrics.{shows, state_text, unpaid_text};
 
 use crate::families::{
-    put_end, put_head, put_peers_lines, put_rows_lines, put_shifts_lines, put_state_line, put_unpaid_lines,
+    put_end, put_head, put_peers_lines, put_rows_lines, put_shifts_lines, put_state_line,
+    put_unpaid_lines,
 };
 use crate::kinds::{is_dispenser, is_till};
 use site_base::{FpNo, GREATEST_SHIFT, PointState};
@@ -70,11 +71,7 @@ fn put_figures(
 fn put_rows(text: &mut String, book: &SiteBook) -> Result<(), AllocError>
     ensures { OnOk result (string_bytes text.new ≡ string_bytes text.old ++ rows_text book.now) }
 {
-    put_rows_lines(
-        text,
-        u128::from(book.len()),
-        u128::from(book.kept_len()),
-    )
+    put_rows_lines(text, u128::from(book.len()), u128::from(book.kept_len()))
 }
 
 /// Connections, and sessions by kind.
@@ -130,11 +127,7 @@ fn put_points(text: &mut String, book: &SiteBook) -> Result<(), AllocError>
 }
 
 /// How many points are in each of these states.
-fn put_states(
-    text: &mut String,
-    book: &SiteBook,
-    states: &[PointState],
-) -> Result<(), AllocError>
+fn put_states(text: &mut String, book: &SiteBook, states: &[PointState]) -> Result<(), AllocError>
     ensures { OnOk result (string_bytes text.new
         ≡ string_bytes text.old ++ flat_map (state_text book.now) states.now) }
 {

@@ -45,12 +45,12 @@ impl<'a> Model for Page<'a> {
     ghost Value = { Shown };
 
     ghost view = { λ p. record {
-        book = p.book.now;
-        unpaid = p.unpaid.now;
-        connections = p.connections;
-        sessions = p.sessions.now;
-        opened = p.opened;
-        seal = option_copied p.seal;
+      book = p.book.now;
+      unpaid = p.unpaid.now;
+      connections = p.connections;
+      sessions = p.sessions.now;
+      opened = p.opened;
+      seal = option_copied p.seal;
     } };
 }
 
@@ -160,11 +160,7 @@ impl<'a> Page<'a> {
     }
 
     /// The unpaid transactions of this point, or all.
-    fn put_unpaid_of(
-        &self,
-        point: Option<FpNo>,
-        response: &mut Response,
-    ) -> Result<(), AllocError>
+    fn put_unpaid_of(&self, point: Option<FpNo>, response: &mut Response) -> Result<(), AllocError>
         requires { IsBlank response.old }
         ensures { OnOk result (IsJson (unpaid_data point self.now.unpaid) response.new) }
     {

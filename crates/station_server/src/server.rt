@@ -286,7 +286,10 @@ impl StationServer {
 
     /// Each connection that is ready has its turn. One of the page has it behind those.
     #[tactic(auto, using(crate::proofs::Rounds::moved, crate::proofs::Rounds::heard))]
-    fn take_turns<D: Disk>(&mut self, connections: &mut Connections<D, PeerStream>) -> Result<(), ServerFault>
+    fn take_turns<D: Disk>(
+        &mut self,
+        connections: &mut Connections<D, PeerStream>,
+    ) -> Result<(), ServerFault>
         ensures moves { Reaches connections.old.stored connections.new.stored }
         ensures due { StayDue connections.old.due connections.new.due }
     {
@@ -312,7 +315,11 @@ impl StationServer {
 
     /// Accepts the connections that wait, at the doors and over TCP, unless accepting has failed.
     #[tactic(auto, using(crate::proofs::Rounds::moved))]
-    fn accept_waiting<R: Eprint, D: Disk>(&mut self, rt: &R, connections: &mut Connections<D, PeerStream>)
+    fn accept_waiting<R: Eprint, D: Disk>(
+        &mut self,
+        rt: &R,
+        connections: &mut Connections<D, PeerStream>,
+    )
         ensures { Reaches connections.old.stored connections.new.stored }
     {
         if self.is_refused {
@@ -328,7 +335,11 @@ impl StationServer {
 
     /// Accepts the connections that wait over TCP, if some do.
     #[tactic(auto, using(crate::proofs::Rounds::moved))]
-    fn accept_on_port<R: Eprint, D: Disk>(&mut self, rt: &R, connections: &mut Connections<D, PeerStream>)
+    fn accept_on_port<R: Eprint, D: Disk>(
+        &mut self,
+        rt: &R,
+        connections: &mut Connections<D, PeerStream>,
+    )
         ensures { ReachesBy (IsWelcome None) connections.old.stored connections.new.stored }
     {
         if self.has_callers {
@@ -338,7 +349,11 @@ impl StationServer {
 
     /// Accepts the connections that wait at the doors, as `accept_all` does.
     #[tactic(auto, using(crate::proofs::Rounds::moved))]
-    fn accept_at_doors<R: Eprint, D: Disk>(&mut self, rt: &R, connections: &mut Connections<D, PeerStream>)
+    fn accept_at_doors<R: Eprint, D: Disk>(
+        &mut self,
+        rt: &R,
+        connections: &mut Connections<D, PeerStream>,
+    )
         ensures { Reaches connections.old.stored connections.new.stored }
     {
         for place in 0..self.doors.len() {
@@ -419,7 +434,10 @@ impl StationServer {
 
     /// Accepts one connection that waits over TCP, as `accept_one_at` does.
     #[tactic(auto, using(crate::proofs::Rounds::moved))]
-    fn accept_one<D: Disk>(&mut self, connections: &mut Connections<D, PeerStream>) -> Caller<TcpStream>
+    fn accept_one<D: Disk>(
+        &mut self,
+        connections: &mut Connections<D, PeerStream>,
+    ) -> Caller<TcpStream>
         ensures { ReachesBy (IsDismissal None) connections.old.stored connections.new.stored }
     {
         match accept_at(&self.listener) {
@@ -437,7 +455,11 @@ impl StationServer {
     /// Accepts the connections that wait over TCP. Where that fails it is told, once until all that
     /// wait are accepted, and tried again.
     #[tactic(auto, using(crate::proofs::Rounds::moved))]
-    fn accept_all<R: Eprint, D: Disk>(&mut self, rt: &R, connections: &mut Connections<D, PeerStream>)
+    fn accept_all<R: Eprint, D: Disk>(
+        &mut self,
+        rt: &R,
+        connections: &mut Connections<D, PeerStream>,
+    )
         ensures { ReachesBy (IsWelcome None) connections.old.stored connections.new.stored }
     {
         for _ in 0..ACCEPTS_A_TURN {
@@ -525,7 +547,7 @@ impl StationServer {
         ensures due { StayDue connections.old.due connections.new.due }
         ensures owed { HasChange connections.old.changes connections.old.stored.station.book
             → OwedAreDue connections.new.stored.station connections.new.links.items
-                connections.new.due }
+            connections.new.due }
     {
         connections.make_owed_due();
         if self.is_sweep_due() {
@@ -556,7 +578,11 @@ impl StationServer {
 
     /// Accepts again, where that failed.
     #[tactic(auto, using(crate::proofs::Rounds::moved))]
-    fn accept_again<R: Eprint, D: Disk>(&mut self, rt: &R, connections: &mut Connections<D, PeerStream>)
+    fn accept_again<R: Eprint, D: Disk>(
+        &mut self,
+        rt: &R,
+        connections: &mut Connections<D, PeerStream>,
+    )
         ensures { Reaches connections.old.stored connections.new.stored }
     {
         if self.is_refused {

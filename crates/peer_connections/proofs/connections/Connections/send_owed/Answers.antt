@@ -41,38 +41,38 @@ returns-in-Some g c =
     still_there c.args.key c.follow_session.new.self.stored.station
     c.report_again.new.self.stored.station _ _ c.follow_session.new.self.paired
     c.report_again.new.self.paired same in record {
-  stream = record {
-    sent_to = c.send_link.new.self.stored;
-    between = c.send_link.new.self.links.items;
-    sends = c.send_link.ensures.stream;
-    follows = reaches_then _ _ _ _ c.follow_session.ensures.moves
-        (reaches_same _ _ _ c.report_again.ensures.stored);
-    no_more = no_more_then g.S.Write.contents c.args.key c.send_link.new.self.links.items
-        c.follow_session.new.self.links.items c.report_again.new.self.links.items was c.follow_session.ensures.got
-        c.report_again.ensures.got;
-    there = λ is. was_there c.args.key _ _ _ _ c.args.self.now.stored _
-        c.args.self.now.paired c.send_link.new.self.paired c.send_link.ensures.stream
-        (still_there c.args.key c.send_link.new.self.stored.station
-        c.follow_session.new.self.stored.station _ _ c.send_link.new.self.paired
-        c.follow_session.new.self.paired
-        (ap (λ (s : StoredState). s.station) (c.follow_session.ensures.stays (was is)))
-        (was is));
-    stays = λ is. c.report_again.ensures.stored ∙ c.follow_session.ensures.stays (was is);
-    let_go = inr (let_go_then c.args.key c.send_link.new.self.stored.station
-        c.follow_session.new.self.stored.station c.report_again.new.self.stored.station _ _ _
-        c.follow_session.new.self.paired c.report_again.new.self.paired same
-        c.follow_session.ensures.let_go);
-  };
-  moves = reaches_then _ _ _ _ (reaches_closing _ _ _ c.send_link.ensures.moves)
-      (reaches_then _ _ _ _ c.follow_session.ensures.moves
-      (reaches_same _ _ _ c.report_again.ensures.stored));
-  others = others_then _ _ _ _ c.send_link.ensures.others
-      (others_then _ _ _ _ c.follow_session.ensures.others c.report_again.ensures.others);
-  sent = c.report_again.ensures.sent (c.follow_session.ensures.sent c.send_link.ensures.sent);
-  journal = ap (λ (s : StoredState). s.journal) c.report_again.ensures.stored
-      ∙ c.follow_session.ensures.journal ∙ c.send_link.ensures.journal;
-  due = c.report_again.ensures.due ∙ c.follow_session.ensures.due ∙ c.send_link.ensures.due;
-}
+      stream = record {
+        sent_to = c.send_link.new.self.stored;
+        between = c.send_link.new.self.links.items;
+        sends = c.send_link.ensures.stream;
+        follows = reaches_then _ _ _ _ c.follow_session.ensures.moves
+            (reaches_same _ _ _ c.report_again.ensures.stored);
+        no_more = no_more_then g.S.Write.contents c.args.key c.send_link.new.self.links.items
+            c.follow_session.new.self.links.items c.report_again.new.self.links.items was c.follow_session.ensures.got
+            c.report_again.ensures.got;
+        there = λ is. was_there c.args.key _ _ _ _ c.args.self.now.stored _
+            c.args.self.now.paired c.send_link.new.self.paired c.send_link.ensures.stream
+            (still_there c.args.key c.send_link.new.self.stored.station
+            c.follow_session.new.self.stored.station _ _ c.send_link.new.self.paired
+            c.follow_session.new.self.paired
+            (ap (λ (s : StoredState). s.station) (c.follow_session.ensures.stays (was is)))
+            (was is));
+        stays = λ is. c.report_again.ensures.stored ∙ c.follow_session.ensures.stays (was is);
+        let_go = inr (let_go_then c.args.key c.send_link.new.self.stored.station
+            c.follow_session.new.self.stored.station c.report_again.new.self.stored.station _ _ _
+            c.follow_session.new.self.paired c.report_again.new.self.paired same
+            c.follow_session.ensures.let_go);
+      };
+      moves = reaches_then _ _ _ _ (reaches_closing _ _ _ c.send_link.ensures.moves)
+          (reaches_then _ _ _ _ c.follow_session.ensures.moves
+          (reaches_same _ _ _ c.report_again.ensures.stored));
+      others = others_then _ _ _ _ c.send_link.ensures.others
+          (others_then _ _ _ _ c.follow_session.ensures.others c.report_again.ensures.others);
+      sent = c.report_again.ensures.sent (c.follow_session.ensures.sent c.send_link.ensures.sent);
+      journal = ap (λ (s : StoredState). s.journal) c.report_again.ensures.stored
+          ∙ c.follow_session.ensures.journal ∙ c.send_link.ensures.journal;
+      due = c.report_again.ensures.due ∙ c.follow_session.ensures.due ∙ c.send_link.ensures.due;
+    }
 
 -- what was sent before its connection failed
 pub returns-in-Some-Failed-clause-stream : goal.returns-in-Some-Failed-clause-stream
