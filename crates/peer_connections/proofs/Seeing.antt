@@ -1,10 +1,10 @@
 -- No row is forgotten before it is looked at: which rows were, as the station moves.
 use Rattle.std.proofs.Common.{◌≡◌, ◌≤◌, ℕ, Bool, true, false, List, [], ◌∷◌, Option, Some, None}
-use Rattle.std.proofs.Common.{ap, arith, inl, inr, length, refl, subst, sym, ◌∙◌}
+use Rattle.std.proofs.Common.{ap, arith, inl, inr, length, subst, sym, ◌∙◌}
 use Rattle.std.proofs.lemmas.List.{length-append}
 use Rattle.std.specs.Prelude.{if◌then◌else◌, slice_get}
 use Rattle.site_book.specs.Book.{Book, with_rows_forgotten}
-use Rattle.station.specs.Moves.{StationState, end_release, lose, with_end, without_old_rows}
+use Rattle.station.specs.Moves.{StationState, end_release, lose, with_end}
 use Rattle.station.specs.Moves.{without_peer}
 use Rattle.station.specs.Reads.{Arrives as GetsKey, ArrivesAt, arrives_at}
 use Rattle.station.specs.Runs.{Arrives, EndsRelease, Finishes, Forgets, Leaves, Loses, Move, Says}
@@ -18,7 +18,7 @@ use Rattle.connection_calls.specs.declared.call.Call.TheVariants.{Ended, Failed,
 use Rattle.connection_calls.specs.declared.call.Call.TheVariants.{Passed, Waits}
 use Rattle.peer_connections.specs.Allowed.{IsSameOrLeft, IsSending}
 use Rattle.peer_connections.specs.Calls.{HearsCall}
-use Rattle.peer_connections.specs.Reaches.{AreAllowed, ReachesBy}
+use Rattle.peer_connections.specs.Reaches.{AreAllowed}
 use Rattle.peer_connections.specs.Sending.{HasSeen}
 use Rattle.peer_connections.specs.Streams.{SendsStream}
 

@@ -1,4 +1,4 @@
-use Rattle.std.proofs.Common.{◌≡◌, ℕ, sym, ap, ◌∙◌, arith}
+use Rattle.std.proofs.Common.{ℕ, sym, ap, ◌∙◌, arith}
 use Rattle.site_book.specs.Book.{site_of_book}
 use Rattle.site_core.specs.Accounts.{takings_of}
 use Rattle.site_json.proofs.Takings.{takings_there}
