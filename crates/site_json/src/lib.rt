@@ -10,5 +10,8 @@ mod tills;
 mod transactions;
 mod whole_site;
 
+pub use figures::time_if;
+pub use points::state_word;
 pub use sessions::PeerSession;
+pub use transactions::status_word;
 pub use whole_site::{site_text, site_value};

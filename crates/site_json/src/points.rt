@@ -99,7 +99,7 @@ fn fuelling_value(alloc: Global, shown: &PointView) -> Result<Value, AllocError>
 }
 
 /// The name of a state.
-fn state_word(state: PointState) -> &'static str
+pub fn state_word(state: PointState) -> &'static str
     ensures { result.now ≡ state_word state }
 {
     match state {

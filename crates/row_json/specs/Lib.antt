@@ -1,0 +1,3 @@
+pub mod ToldRows
+pub mod ReplyWords
+pub mod RowObjects
