@@ -7,7 +7,8 @@ use Rattle.site_base.specs.Events.{point_named}
 use Rattle.site_book.specs.declared.named_sale.NamedSale.{NamedSale}
 use Rattle.site_json.specs.Figures.{text_if}
 use Rattle.row_json.specs.declared.told_row.ToldRow.{ToldRow}
-use Rattle.row_json.specs.RowObjects.{member_if, point_data, put_if, row_data, sale_told, state_data}
+use Rattle.row_json.specs.RowObjects.{member_if, point_data, put_if, row_data, sale_told}
+use Rattle.row_json.specs.RowObjects.{state_data}
 
 pub object_same : (a b : Members) → object a ≡ object b → a ≡ b
 object_same a b same = cc

@@ -1,3 +1,4 @@
 pub mod ToldRows
 pub mod ReplyWords
 pub mod RowObjects
+pub mod LastRows

@@ -1,5 +1,6 @@
 -- The words in which replies are told, as `explain` prints them.
-use Rattle.std.specs.Prelude.{ℕ, List, [], ◌++◌, codes, decimal, Option, Some, None, Result, Ok, Err}
+use Rattle.std.specs.Prelude.{ℕ, List, [], ◌++◌, codes, decimal, Option, Some, None, Result, Ok}
+use Rattle.std.specs.Prelude.{Err}
 use Rattle.site_base.specs.declared.answer.Answer.{Answer}
 use Rattle.site_base.specs.declared.answer.Answer.TheVariants as answers
 use Rattle.site_base.specs.declared.refusal.Refusal.{Refusal}
@@ -75,7 +76,8 @@ refusal_name refusals.Ending = codes "Ending"
 refusal_name refusals.ShiftsSpent = codes "ShiftsSpent"
 refusal_name refusals.MeterSpent = codes "MeterSpent"
 
--- what a refusal names, in brackets: a state by its name, a till, a nozzle or a reading by its number
+-- what a refusal names, in brackets: a state by its name, a till, a nozzle or a reading by its
+-- number
 abbrev pub detail_behind : Refusal → List ℕ
 detail_behind (refusals.WrongState state) = bracketed (state_word state)
 detail_behind refusal = number_if (refusal_detail refusal)
@@ -87,7 +89,8 @@ detail_behind refusal = number_if (refusal_detail refusal)
 -- a refusal's number, its name, and what it names: `11 AssignedToOther(2)`
 abbrev pub refusal_words : Refusal → List ℕ
 refusal_words refusal =
-    decimal (refusal_number refusal) ++ (codes " " ++ (refusal_name refusal ++ detail_behind refusal))
+    decimal (refusal_number refusal)
+    ++ (codes " " ++ (refusal_name refusal ++ detail_behind refusal))
 
 -- the words of the answer, or of the refusal
 abbrev pub reply_words : Result Answer Refusal → List ℕ

@@ -1,12 +1,14 @@
 //! What the site shows after each row of a history.
 
-ghost use Rattle.std.specs.Prelude.{◌≡◌, IfOk, OnErr, OnOk, option_and_then};
+ghost use Rattle.std.specs.Prelude.{◌≡◌, IfOk, OnErr, OnOk, option_and_then, string_bytes};
 ghost use Rattle.transaction_buffer.specs.Sales.{key};
 ghost use Rattle.written_site.specs.SiteState.{key_named, opening};
 ghost use Rattle.written_site.specs.SiteStep.{site_after};
 ghost use Rattle.site_book.specs.BookSales.{sale_named};
+ghost use Rattle.row_json.specs.RowObjects.{row_line};
 ghost use Rattle.row_json.specs.ToldRows.{key_changed, sale_told, state_at, told_row};
 
+use crate::row_line::row_line;
 use crate::told_row::ToldRow;
 use site_base::{
     Answer, Event, FpNo, NoMemory, PointState, PointView, Row, SaleId, Seq, ShiftNo, SiteConfig,
@@ -53,23 +55,42 @@ impl RowReader {
         Ok(RowReader { site })
     }
 
-    /// The next row, with this number and time, and what the site shows after it. After `NoMemory`
-    /// the row isn't read.
-    pub fn read(&mut self, number: u64, time: Option<Stamp>, row: &Row) -> Result<ToldRow, NoMemory>
+    /// Takes the next row. After `NoMemory` it isn't taken.
+    pub fn pass(&mut self, row: &Row) -> Result<(), NoMemory>
         ensures site { OnOk result
             (self.new ≡ site_after self.old row.now.actor row.now.event) }
-        ensures told { IfOk result (λ told. told ≡ told_row self.new number time row.now) }
         ensures err { OnErr result (self.new ≡ self.old) }
     {
         self.site.prepare(row.actor, &row.event)?;
         let _ = self.site.step(row.actor, row.event);
-        Ok(ToldRow {
+        Ok(())
+    }
+
+    /// The line of the row that was taken last, with this number and time.
+    pub fn line(
+        &self,
+        alloc: Global,
+        number: u64,
+        time: Option<Stamp>,
+        row: &Row,
+    ) -> Result<String, NoMemory>
+        ensures { IfOk result (λ line.
+            string_bytes line ≡ row_line (told_row self.now number time row.now)) }
+    {
+        row_line(alloc, &self.told(number, time, row))
+    }
+
+    /// The row that was taken last, with this number and time, and what the site shows after it.
+    fn told(&self, number: u64, time: Option<Stamp>, row: &Row) -> ToldRow
+        ensures { result ≡ told_row self.now number time row.now }
+    {
+        ToldRow {
             number,
             time,
             row: *row,
             state: self.state(row.event.point()),
             sale: self.sale(row),
-        })
+        }
     }
 
     /// The state of a point.
