@@ -3,11 +3,13 @@
 //! which reads each row and says where the history ends.
 #![tactic(auto)]
 
+mod asked_rows;
 mod options;
 mod output;
 mod past_row;
 mod report;
 mod row_count;
+mod row_form;
 mod rows;
 mod sale_story;
 mod sale_word;

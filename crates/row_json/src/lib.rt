@@ -5,6 +5,7 @@
 #![tactic(auto)]
 
 mod last_rows;
+mod laws;
 mod reply_words;
 mod row_line;
 mod row_object;
@@ -13,6 +14,7 @@ mod sizes;
 mod told_row;
 
 pub use last_rows::LastRows;
+pub use laws::json_tells_the_row;
 pub use row_reader::RowReader;
 pub use sizes::{GREATEST_ROW, LAST_ROWS};
 pub use told_row::ToldRow;
