@@ -2,7 +2,6 @@
 //! `forecourt explain FOLDER [--shift A[..B]] [--times]`.
 
 ghost use Rattle.std.specs.Prelude.{OnOk};
-ghost use Rattle.chapters.specs.RowText.{IsSent};
 ghost use Rattle.history_folder.specs.Reading.{IsWhole};
 
 use crate::asked_rows::AskedRows;
@@ -101,7 +100,10 @@ fn put_all<R: Files + Print + Eprint + AllocGlobal>(
         };
         let (time, is_asked) = (walk.end().time(), asked.has(number, shift));
         let whole = text.len();
-        if form.put(rt.alloc(), number, time, &row, is_asked, text).is_err() {
+        if form
+            .put(rt.alloc(), number, time, &row, is_asked, text)
+            .is_err()
+        {
             // What there is of this row isn't printed.
             text.truncate(whole);
             return Err(exit_no_memory(rt));
