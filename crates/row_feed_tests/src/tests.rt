@@ -6,14 +6,14 @@ use row_json::{LAST_ROWS, LastRows};
 use site_base::{Actor, Answer, Event, FpNo, NoMemory, Refusal, Reply, Row, TillNo};
 use std::alloc::Global;
 
-const FIRST: &str =
-    "{\"actor\":\"t1\",\"at\":null,\"event\":\"SignOn\",\"reply\":\"Done\",\"row\":0}\n";
+const FIRST: &str = "{\"actor\":\"t1\",\"at\":null,\"event\":\"SignOn\",\"reply\":\"Done\",\
+                     \"row\":0}\n";
 
-const SECOND: &str =
-    "{\"actor\":\"t1\",\"at\":null,\"event\":\"Open 1\",\"point\":1,\"reply\":\"Done\",\"row\":1,\"state\":\"idle\"}\n";
+const SECOND: &str = "{\"actor\":\"t1\",\"at\":null,\"event\":\"Open 1\",\"point\":1,\
+                      \"reply\":\"Done\",\"row\":1,\"state\":\"idle\"}\n";
 
-const THIRD: &str =
-    "{\"actor\":\"t1\",\"at\":null,\"event\":\"SignOn\",\"reply\":\"2 SignedOn\",\"row\":2}\n";
+const THIRD: &str = "{\"actor\":\"t1\",\"at\":null,\"event\":\"SignOn\",\
+                     \"reply\":\"2 SignedOn\",\"row\":2}\n";
 
 /// A row of till 1.
 fn row(event: Event, reply: Reply) -> Row {
