@@ -356,7 +356,8 @@ def list_readings():
     """The commands that read a history's folder."""
     busy, ended = make_read_histories()
     for word, *words in (
-        ["replay"], ["replay", "--changes", "--shift", "1"], ["explain"], ["sales"],
+        ["replay"], ["replay", "--changes", "--shift", "1"], ["replay", "--json", "--from", "3"],
+        ["explain"], ["sales"],
         ["sales", "--json"], ["sales", "--draws"], ["report"], ["report", "--human"],
         ["report", "--json", "--shift", "1"], ["shifts"], ["shifts", "--json"],
     ):  # fmt: skip

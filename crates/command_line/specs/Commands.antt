@@ -55,6 +55,7 @@ IsSaid name rows (commands.Check site) =
 IsSaid name rows (commands.Replay o) =
     (name ≡ codes "replay") × (o.site.now ≡ text_in (codes "FILE") rows)
     × HasFlag (codes "changes") rows o.changes × IsOption (codes "shift") rows o.shift
+    × HasFlag (codes "json") rows o.json × IsOption (codes "from") rows o.from
 IsSaid name rows (commands.Report o) =
     (name ≡ codes "report") × (o.site.now ≡ text_in (codes "FILE") rows) × HasForm rows o.form
     × IsOption (codes "shift") rows o.shift

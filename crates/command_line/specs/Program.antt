@@ -58,7 +58,8 @@ abbrev pub replay_shapes : List Shape
 replay_shapes =
     command (codes "check") (site_file_rule ∷ [])
     ∷ command (codes "replay")
-    (site_file_rule ∷ flag_rule (codes "changes") ∷ option_rule (codes "shift") ∷ [])
+    (site_file_rule ∷ flag_rule (codes "changes") ∷ option_rule (codes "shift")
+    ∷ flag_rule (codes "json") ∷ option_rule (codes "from") ∷ [])
     ∷ command (codes "report")
     (site_file_rule ∷ flag_rule (codes "human") ∷ flag_rule (codes "json")
     ∷ option_rule (codes "shift") ∷ [])

@@ -7,7 +7,7 @@ pub enum Command<'a> {
     ReplayHere,
     /// `check FILE`: how large is the site of this file?
     Check(&'a str),
-    /// `replay FILE [--changes] [--shift A[..B]]`
+    /// `replay FILE [--changes] [--shift A[..B]] [--json] [--from N]`
     Replay(ReplayOptions<'a>),
     /// `report FILE [--human | --json] [--shift A[..B]]`
     Report(ReportOptions<'a>),
@@ -47,6 +47,10 @@ pub struct ReplayOptions<'a> {
     pub changes: bool,
     /// The shifts of the history.
     pub shift: Option<&'a str>,
+    /// Prints each row of a history as an object of JSON, and not its reply.
+    pub json: bool,
+    /// From which row of a history on.
+    pub from: Option<&'a str>,
 }
 
 /// What `report` is given.

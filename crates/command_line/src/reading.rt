@@ -52,6 +52,8 @@ fn read_replay<'a>(words: &ArgMatches<'a>) -> ReplayOptions<'a>
         site: read_text(words, "FILE"),
         changes: is_given(words, "changes"),
         shift: find_text(words, "shift"),
+        json: is_given(words, "json"),
+        from: find_text(words, "from"),
     }
 }
 

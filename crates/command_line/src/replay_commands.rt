@@ -5,7 +5,7 @@ ghost use Rattle.clap.specs.Words.{app_of};
 ghost use Rattle.command_line.specs.Program.{HasShape, command, flag_rule, option_rule};
 ghost use Rattle.command_line.specs.Program.{replay_shapes, site_file_rule, with_commands};
 
-use crate::arguments::{flag, from, shift, site_file, site_or_history, to};
+use crate::arguments::{flag, from, option, shift, site_file, site_or_history, to};
 use crate::building::{add_argument, add_command, start};
 use clap::Command;
 use std::alloc::{AllocError, Global};
@@ -32,16 +32,21 @@ fn check<'a>(alloc: Global) -> Result<Command<'a>, AllocError>
 
 fn replay<'a>(alloc: Global) -> Result<Command<'a>, AllocError>
     ensures { IfOk result (HasShape (command (codes "replay")
-        (site_file_rule ∷ flag_rule (codes "changes") ∷ option_rule (codes "shift") ∷ []))) }
+        (site_file_rule ∷ flag_rule (codes "changes") ∷ option_rule (codes "shift")
+        ∷ flag_rule (codes "json") ∷ option_rule (codes "from") ∷ []))) }
 {
     let about = "Answers the messages of standard input on the site of a file, or prints the \
                  replies of a history";
     let example = "Example: forecourt replay examples/five_points.toml < examples/day.hex\n";
     let changes = "Prints the changes that dispensers are told, too";
+    let json = "Prints each row of a history as an object of JSON, a line";
+    let from = "The first row of the history that is printed; rows count from 0";
     let command = start(alloc, "replay", about, example);
     let command = add_argument(command, site_or_history(alloc))?;
     let command = add_argument(command, flag(alloc, "changes", changes))?;
-    add_argument(command, shift(alloc))
+    let command = add_argument(command, shift(alloc))?;
+    let command = add_argument(command, flag(alloc, "json", json))?;
+    add_argument(command, option(alloc, "from", "N", from))
 }
 
 fn report<'a>(alloc: Global) -> Result<Command<'a>, AllocError>

@@ -1,5 +1,9 @@
 //! `forecourt replay FILE`, and the program without words.
 
+ghost use Rattle.std.specs.Prelude.{◌≡◌, IfErr, None, OnOk, false};
+ghost use Rattle.std.specs.Process.{exit_status};
+ghost use Rattle.program_io.specs.declared.exit.TheConstants.{COMMAND_LINE};
+
 use crate::history_option::refuse_option;
 use crate::named_site::open_input;
 use command_line::ReplayOptions;
@@ -19,13 +23,25 @@ pub fn run_replay<R: Files + Print + Eprint + AllocGlobal, I: Read + Drop>(
     input: I,
     options: ReplayOptions<'_>,
 ) -> ExitCode {
-    if let Err(status) = refuse_option(rt, "shift", options.shift.is_some()) {
+    if let Err(status) = refuse_options(rt, &options) {
         return status;
     }
     match open_input(rt, options.site, input) {
         Ok((config, input, turns)) => replay_on(rt, input, turns, &config, options.changes),
         Err(status) => status,
     }
+}
+
+/// How the program ends where rows of a history are asked for.
+fn refuse_options(rt: &impl Eprint, options: &ReplayOptions<'_>) -> Result<(), ExitCode>
+    ensures shift { OnOk result (options.now.shift ≡ None) }
+    ensures json { OnOk result (options.now.json ≡ false) }
+    ensures from { OnOk result (options.now.from ≡ None) }
+    ensures failed { IfErr result (λ status. exit_status status ≡ COMMAND_LINE) }
+{
+    refuse_option(rt, "shift", options.shift.is_some())?;
+    refuse_option(rt, "json", options.json)?;
+    refuse_option(rt, "from", options.from.is_some())
 }
 
 /// Answers this input on the known site.

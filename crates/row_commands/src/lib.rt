@@ -3,12 +3,14 @@
 //! `verify`, which reads each row and says where the history ends.
 #![tactic(auto)]
 
+mod asked_rows;
 mod counters;
 mod options;
 mod output;
 mod past_row;
 mod report;
 mod row_count;
+mod row_form;
 mod rows;
 mod sale_story;
 mod sale_word;

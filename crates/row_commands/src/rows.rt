@@ -1,61 +1,33 @@
-//! `forecourt replay FOLDER [--changes] [--shift A[..B]]` and `forecourt explain FOLDER
-//! [--shift A[..B]] [--times]`.
+//! `forecourt replay FOLDER [--changes | --json] [--shift A[..B]] [--from N]` and
+//! `forecourt explain FOLDER [--shift A[..B]] [--times]`.
 
 ghost use Rattle.std.specs.Prelude.{OnOk};
-ghost use Rattle.chapters.specs.RowText.{IsSent};
 ghost use Rattle.history_folder.specs.Reading.{IsWhole};
 
-use crate::options::{check_shifts, is_asked, read_shifts};
+use crate::asked_rows::AskedRows;
 use crate::output::{print_piece, print_text};
+use crate::row_form::{FormKind, RowForm};
 use command_line::{ExplainOptions, ReplayOptions};
 use devices::ReadFault;
 use forecourt_engines::ReplayFault;
 use history_folder::FolderWalk;
-use past_rows::{ReplyLines, ShiftRange, put_timed_words, put_words};
 use program_io::{exit_no_memory, exit_replay};
-use site_base::{NoMemory, Row};
-use stamps::Stamp;
-use std::alloc::Global;
 use std::process::ExitCode;
 use std::rt::Files;
 
-/// What is printed of a row.
-#[derive(Drop)]
-enum RowForm {
-    /// Its reply, as lines of hexadecimal.
-    Reply(ReplyLines),
-    /// Its words.
-    Words,
-    /// Its time, and its words.
-    TimedWords,
-}
-
-impl RowForm {
-    /// Appends what is printed of a row. After `NoMemory` there may be a part of it.
-    fn put(
-        &mut self,
-        alloc: Global,
-        time: Option<Stamp>,
-        row: &Row,
-        text: &mut Vec<u8>,
-    ) -> Result<(), NoMemory>
-        requires { IsSent row.now }
-    {
-        match self {
-            RowForm::Reply(lines) => lines.put(row, text),
-            RowForm::Words => put_words(alloc, row, text),
-            RowForm::TimedWords => put_timed_words(alloc, time, row, text),
-        }
-    }
-}
-
-/// Prints the replies to the rows of the history in a folder.
+/// Prints the replies to the rows of the history in a folder, or the rows as JSON.
 pub fn run_replay_folder<R: Files + Print + Eprint + AllocGlobal>(
     rt: &R,
     options: ReplayOptions<'_>,
 ) -> ExitCode {
-    let form = RowForm::Reply(ReplyLines::new(rt.alloc(), options.changes));
-    run_rows(rt, options.site, options.shift, form)
+    let kind = if options.json {
+        FormKind::Json
+    } else {
+        FormKind::Reply {
+            changes: options.changes,
+        }
+    };
+    run_rows(rt, options.site, options.shift, options.from, kind)
 }
 
 /// Prints the rows of the history in a folder in words, a line for each, with its time ahead of it
@@ -65,24 +37,25 @@ pub fn run_explain_folder<R: Files + Print + Eprint + AllocGlobal>(
     folder: &str,
     options: ExplainOptions<'_>,
 ) -> ExitCode {
-    let form = if options.times {
-        RowForm::TimedWords
+    let kind = if options.times {
+        FormKind::TimedWords
     } else {
-        RowForm::Words
+        FormKind::Words
     };
-    run_rows(rt, folder, options.shift, form)
+    run_rows(rt, folder, options.shift, None, kind)
 }
 
-/// Prints the rows of a folder in this form, of all shifts or of those that a word says.
+/// Prints the rows of a folder in a form of this kind: those of all shifts or of those that a word
+/// says, from the row on that another one says.
 fn run_rows<R: Files + Print + Eprint + AllocGlobal>(
     rt: &R,
     folder: &str,
     shift: Option<&str>,
-    form: RowForm,
+    from: Option<&str>,
+    kind: FormKind,
 ) -> ExitCode {
-    let mut form = form;
-    let printed = match read_shifts(rt, shift) {
-        Ok(shifts) => print_rows(rt, folder, &shifts, &mut form),
+    let printed = match AskedRows::read(rt, shift, from) {
+        Ok(asked) => print_rows(rt, folder, &asked, kind),
         Err(status) => Err(status),
     };
     match printed {
@@ -91,48 +64,49 @@ fn run_rows<R: Files + Print + Eprint + AllocGlobal>(
     }
 }
 
-/// Prints the rows of these shifts. Behind a fault of the history, too, what stands before it is
-/// printed.
+/// Prints these rows. Behind a fault of the history, too, what stands before it is printed.
 fn print_rows<R: Files + Print + Eprint + AllocGlobal>(
     rt: &R,
     folder: &str,
-    shifts: &Option<ShiftRange>,
-    form: &mut RowForm,
+    asked: &AskedRows,
+    kind: FormKind,
 ) -> Result<(), ExitCode> {
     let mut walk = FolderWalk::open(rt, folder)?;
+    let Ok(mut form) = RowForm::open(rt.alloc(), kind, walk.book().config()) else {
+        return Err(exit_no_memory(rt));
+    };
     let mut text = Vec::new(rt.alloc());
-    let ended = put_all(rt, folder, &mut walk, shifts, form, &mut text);
+    let ended = put_all(rt, folder, &mut walk, asked, &mut form, &mut text);
     print_text(rt, &mut text)?;
-    match ended {
-        Ok(()) => check_shifts(rt, shifts, walk.book().open_shift()),
-        Err(status) => Err(status),
-    }
+    asked.check(rt, ended?, walk.book().open_shift())
 }
 
-/// Puts the rows of these shifts into the text, which is printed piece after piece.
+/// Puts these rows into the text, which is printed piece after piece. It says how many rows the
+/// history has.
 fn put_all<R: Files + Print + Eprint + AllocGlobal>(
     rt: &R,
     folder: &str,
     walk: &mut FolderWalk,
-    shifts: &Option<ShiftRange>,
+    asked: &AskedRows,
     form: &mut RowForm,
     text: &mut Vec<u8>,
-) -> Result<(), ExitCode>
+) -> Result<u64, ExitCode>
     ensures { OnOk result (IsWhole walk.new) }
 {
-    for _ in 0..u64::MAX {
+    for number in 0..u64::MAX {
         let shift = walk.book().open_shift();
         let Some(row) = walk.next(rt, folder)? else {
-            return Ok(());
+            return Ok(number);
         };
-        if is_asked(shifts, shift) {
-            let whole = text.len();
-            let time = walk.end().time();
-            if form.put(rt.alloc(), time, &row, text).is_err() {
-                // What there is of this row isn't printed.
-                text.truncate(whole);
-                return Err(exit_no_memory(rt));
-            }
+        let (time, is_asked) = (walk.end().time(), asked.has(number, shift));
+        let whole = text.len();
+        if form
+            .put(rt.alloc(), number, time, &row, is_asked, text)
+            .is_err()
+        {
+            // What there is of this row isn't printed.
+            text.truncate(whole);
+            return Err(exit_no_memory(rt));
         }
         print_piece(rt, text)?;
     }

@@ -11,7 +11,9 @@ mod transactions;
 mod unpaid;
 mod whole_site;
 
+pub use figures::time_if;
 pub use points::state_word;
 pub use sessions::PeerSession;
+pub use transactions::status_word;
 pub use unpaid::unpaid_text;
 pub use whole_site::{site_text, site_value};

@@ -66,7 +66,7 @@ fn transaction_value(alloc: Global, sold: &NamedSale) -> Result<Value, AllocErro
 }
 
 /// The name of a status.
-fn status_word(standing: &Standing) -> &'static str
+pub fn status_word(standing: &Standing) -> &'static str
     ensures { result.now ≡ status_word (status_of standing.now) }
 {
     match standing {

@@ -1,0 +1,2 @@
+pub mod FeedCalls
+pub mod Turns

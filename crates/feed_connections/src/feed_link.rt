@@ -1,0 +1,184 @@
+//! The connection of a feed's peer.
+
+ghost use Rattle.std.specs.Prelude.{◌≡◌, OnOk};
+ghost use Rattle.row_feed.specs.Feeds.{new_feed};
+ghost use Rattle.feed_connections.specs.Turns.{Turns};
+
+use crate::calls::{hear_once, send_once};
+use crate::progress::Progress;
+use crate::sizes::{ALIVE_SECONDS, ASKING_SECONDS, HEARD_OCTETS, TAKING_SECONDS};
+use connection_calls::{CALLS_A_TURN, Call};
+use row_feed::{ChapterStarts, Feed, Stage};
+use row_json::LastRows;
+use site_base::NoMemory;
+use std::alloc::Global;
+use std::io::{Read, Write};
+use std::marker::Model;
+use std::time::Instant;
+
+/// The connection of a peer that is fed rows. Contracts see its feed. After `NoMemory` it is to be
+/// closed.
+#[derive(Drop)]
+pub struct FeedLink<S: Read + Write + Drop> {
+    stream: S,
+    feed: Feed,
+    /// When the peer took something last, or came.
+    taken_at: Instant,
+    /// When something was made for it last, or it came.
+    made_at: Instant,
+    /// The peer sends no more.
+    has_said_all: bool,
+}
+
+impl<S: Read + Write + Drop> Model for FeedLink<S> {
+    ghost use Rattle.row_feed.specs.Feeds.{FeedState};
+
+    ghost Value = { FeedState };
+
+    ghost view = { λ l. l.feed };
+}
+
+impl<S: Read + Write + Drop> FeedLink<S> {
+    /// The connection of a peer that has just come. It takes no memory.
+    pub fn new(alloc: Global, stream: S, now: Instant) -> FeedLink<S>
+        ensures { result ≡ new_feed }
+    {
+        FeedLink {
+            stream,
+            feed: Feed::new(alloc),
+            taken_at: now,
+            made_at: now,
+            has_said_all: false,
+        }
+    }
+
+    /// Was its peer waited for too long: for its first line, or while something is pending?
+    pub fn is_late(&self, now: Instant) -> bool {
+        let waited = now.duration_since(self.taken_at).as_secs();
+        match self.feed.stage() {
+            Stage::Asks => waited >= ASKING_SECONDS,
+            _ => !self.feed.pending().is_empty() && waited >= TAKING_SECONDS,
+        }
+    }
+
+    /// A peer for which nothing was made for ten seconds is told which row is next, as soon as it
+    /// can take that.
+    #[tactic(auto, using(crate::proofs::Turning::turning))]
+    pub fn keep_alive(&mut self, rows: &LastRows, now: Instant) -> Result<(), NoMemory>
+        ensures { OnOk result (Turns rows.now self.old self.new) }
+    {
+        let _ = rows;
+        if now.duration_since(self.made_at).as_secs() < ALIVE_SECONDS {
+            return Ok(());
+        }
+        self.made_at = now;
+        self.feed.say_alive()
+    }
+
+    /// Has its turn: what the peer sends is heard, and what is made for it is sent, of these last
+    /// rows, where chapters begin so.
+    pub fn take_turn(
+        &mut self,
+        rows: &LastRows,
+        starts: &ChapterStarts,
+        now: Instant,
+    ) -> Result<Progress, NoMemory>
+        ensures { OnOk result (Turns rows.now self.old self.new) }
+    {
+        for _ in 0..CALLS_A_TURN {
+            match self.go_on(rows, starts, now)? {
+                Progress::GoesOn => {}
+                end => return Ok(end),
+            }
+        }
+        Ok(Progress::GoesOn)
+    }
+
+    /// Takes one step.
+    fn go_on(
+        &mut self,
+        rows: &LastRows,
+        starts: &ChapterStarts,
+        now: Instant,
+    ) -> Result<Progress, NoMemory>
+        ensures { OnOk result (Turns rows.now self.old self.new) }
+    {
+        if !self.feed.pending().is_empty() {
+            return Ok(self.send(rows, now));
+        }
+        match self.feed.stage() {
+            Stage::Asks => self.hear(rows),
+            Stage::Follows(_) => self.make(rows, starts, now),
+            Stage::Over => Ok(Progress::Over),
+        }
+    }
+
+    /// Sends once of what is pending.
+    #[tactic(auto, using(crate::proofs::Turning::turning))]
+    fn send(&mut self, rows: &LastRows, now: Instant) -> Progress
+        ensures { Turns rows.now self.old self.new }
+    {
+        let _ = rows;
+        let call = send_once(&mut self.stream, &mut self.feed);
+        if let Call::Passed(_) = call {
+            self.taken_at = now;
+        }
+        progress_after(call)
+    }
+
+    /// Hears once what the peer sends.
+    #[tactic(auto, using(crate::proofs::Turning::turning))]
+    fn hear(&mut self, rows: &LastRows) -> Result<Progress, NoMemory>
+        ensures { OnOk result (Turns rows.now self.old self.new) }
+    {
+        let mut piece = [0; HEARD_OCTETS];
+        let call = hear_once(&mut self.stream, &mut self.feed, rows.next(), &mut piece)?;
+        Ok(progress_after(call))
+    }
+
+    /// Makes lines for the peer. Where there is no row for it, what it still says is passed over.
+    #[tactic(auto, using(crate::proofs::Turning::turning))]
+    fn make(
+        &mut self,
+        rows: &LastRows,
+        starts: &ChapterStarts,
+        now: Instant,
+    ) -> Result<Progress, NoMemory>
+        ensures { OnOk result (Turns rows.now self.old self.new) }
+    {
+        self.feed.make(rows, starts)?;
+        if !self.feed.pending().is_empty() {
+            self.made_at = now;
+            self.taken_at = now;
+            return Ok(Progress::GoesOn);
+        }
+        if self.has_said_all {
+            return Ok(Progress::Waits);
+        }
+        self.look(rows)
+    }
+
+    /// Hears once what the peer says behind its line, which is passed over. Where it sends no more
+    /// it is fed on.
+    #[tactic(auto, using(crate::proofs::Turning::turning))]
+    fn look(&mut self, rows: &LastRows) -> Result<Progress, NoMemory>
+        ensures { OnOk result (Turns rows.now self.old self.new) }
+    {
+        match self.hear(rows)? {
+            Progress::Over => {
+                self.has_said_all = true;
+                Ok(Progress::Waits)
+            }
+            progress => Ok(progress),
+        }
+    }
+}
+
+/// How a connection goes on after a call.
+fn progress_after(call: Call) -> Progress {
+    match call {
+        Call::Passed(_) | Call::Interrupted => Progress::GoesOn,
+        Call::Waits => Progress::Waits,
+        Call::Ended | Call::Failed => Progress::Over,
+    }
+}

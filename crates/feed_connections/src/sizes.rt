@@ -1,0 +1,13 @@
+//! The sizes of a feed's connections, each written once.
+
+/// A peer gets so many seconds for its first line.
+pub const ASKING_SECONDS: u64 = 10;
+
+/// A peer that takes nothing for so many seconds is closed.
+pub const TAKING_SECONDS: u64 = 60;
+
+/// A peer without a row for so many seconds is told which row is next.
+pub const ALIVE_SECONDS: u64 = 10;
+
+/// So many octets of what a peer sends are read at once, at most.
+pub const HEARD_OCTETS: usize = 256;

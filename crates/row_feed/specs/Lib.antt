@@ -1,0 +1,4 @@
+pub mod FeedFaults
+pub mod FirstLines
+pub mod Feeds
+pub mod FeedLaws

@@ -1,0 +1,5 @@
+pub mod ToldRows
+pub mod ReplyWords
+pub mod RowObjects
+pub mod LastRows
+pub mod RowLaws
