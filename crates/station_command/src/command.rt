@@ -224,6 +224,7 @@ fn serve_peers<R: StationHost, T: Threads + Wait + Sync, I: Read + Send + Drop +
         ≡ opening_station connections.old.stored.station.gates
         connections.old.stored.station.book }
     requires off { HasNobodyOn connections.old.stored.station.book }
+    requires found { IsFound found connections.old.stored.journal }
 {
     match listen(rt, doors, plans.station) {
         Ok(mut server) => {
@@ -261,6 +262,7 @@ fn serve_until_end<R: StationHost, T: Threads + Wait + Sync, I: Read + Send + Dr
         ≡ opening_station connections.old.stored.station.gates
         connections.old.stored.station.book }
     requires off { HasNobodyOn connections.old.stored.station.book }
+    requires found { IsFound found connections.old.stored.journal }
 {
     if options.detached {
         return serve_day(
@@ -308,6 +310,7 @@ fn serve_day<R: StationHost, T: Wait>(
         ≡ opening_station connections.old.stored.station.gates
         connections.old.stored.station.book }
     requires off { HasNobodyOn connections.old.stored.station.book }
+    requires found { IsFound found connections.old.stored.journal }
 {
     print_found(rt, found)?;
     let mut writer = Counted::new(io::writer(rt));
