@@ -614,7 +614,7 @@ def figures_for_programs():
         found, site = read_samples(body.decode()), page.site()
         sale = site["transactions"][0]
         wanted = {
-            "witsomar_rows_total": 7, "witsomar_kept_rows_total": 7,
+            "witsomar_rows": 7, "witsomar_kept_rows": 7,
             "witsomar_connections": 2,
             'witsomar_sessions{kind="till"}': 1, 'witsomar_sessions{kind="dispenser"}': 1,
             'witsomar_points{state="idle"}': 2,

@@ -34,17 +34,13 @@ sample name labels n = name ++ labels ++ codes " " ++ decimal n ++ codes "\n"
 unfoldable pub gauge : List ℕ → List ℕ → ℕ → List ℕ
 gauge name help n = head name (codes "gauge") help ++ sample name [] n
 
--- .. which only grows: its sample's name ends in _total
-unfoldable pub counter : List ℕ → List ℕ → ℕ → List ℕ
-counter name help n = head name (codes "counter") help ++ sample name (codes "_total") n
-
 -- ---- the figures
 
 -- how many rows there are, and how many of them aren't those of reads
 unfoldable pub rows_lines : ℕ → ℕ → List ℕ
 rows_lines rows kept =
-    counter (codes "witsomar_rows") (codes "Rows of the history.") rows
-    ++ counter (codes "witsomar_kept_rows") (codes "Rows but those of reads.") kept
+    gauge (codes "witsomar_rows") (codes "Rows of the history.") rows
+    ++ gauge (codes "witsomar_kept_rows") (codes "Rows but those of reads.") kept
 
 abbrev pub rows_text : Book → List ℕ
 rows_text b = rows_lines (length b.rows) (length (kept_rows b.rows))

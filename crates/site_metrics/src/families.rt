@@ -1,14 +1,14 @@
 //! Families of samples, as OpenMetrics writes them.
 
 ghost use Rattle.std.specs.Prelude.{◌≡◌, ◌++◌, OnOk, string_bytes};
-ghost use Rattle.site_metrics.specs.Metrics.{counter, end_line, gauge, head, kinds_lines, peers_lines};
+ghost use Rattle.site_metrics.specs.Metrics.{end_line, gauge, head, kinds_lines, peers_lines};
 ghost use Rattle.site_metrics.specs.Metrics.{rows_lines};
 ghost use Rattle.site_metrics.specs.Metrics.{sample, sessions_lines, shifts_lines, state_line};
 ghost use Rattle.site_metrics.specs.Metrics.{unpaid_lines};
 
 use std::alloc::AllocError;
 
-/// Appends a family of one sample, which may rise and fall.
+/// Appends a family of one sample.
 pub(crate) fn put_gauge(
     text: &mut String,
     name: &str,
@@ -20,20 +20,6 @@ pub(crate) fn put_gauge(
 {
     put_head(text, name, "gauge", help)?;
     put_sample(text, name, "", value)
-}
-
-/// Appends a family of one sample, which only grows.
-pub(crate) fn put_counter(
-    text: &mut String,
-    name: &str,
-    help: &str,
-    value: u128,
-) -> Result<(), AllocError>
-    ensures { OnOk result
-        (string_bytes text.new ≡ string_bytes text.old ++ counter name.now help.now value) }
-{
-    put_head(text, name, "counter", help)?;
-    put_sample(text, name, "_total", value)
 }
 
 /// Appends the head of a family.
@@ -85,8 +71,8 @@ pub(crate) fn put_end(text: &mut String) -> Result<(), AllocError>
 pub(crate) fn put_rows_lines(text: &mut String, rows: u128, kept: u128) -> Result<(), AllocError>
     ensures { OnOk result (string_bytes text.new ≡ string_bytes text.old ++ rows_lines rows kept) }
 {
-    put_counter(text, "witsomar_rows", "Rows of the history.", rows)?;
-    put_counter(text, "witsomar_kept_rows", "Rows but those of reads.", kept)
+    put_gauge(text, "witsomar_rows", "Rows of the history.", rows)?;
+    put_gauge(text, "witsomar_kept_rows", "Rows but those of reads.", kept)
 }
 
 /// Appends so many connections, and sessions of tills and of dispensers.

@@ -5,4 +5,4 @@ use Rattle.site_metrics.proofs.families.put_rows_lines.Goals as goal
 
 pub returns : goal.returns
 unfolding rows_lines
-returns c = put_last _ _ _ _ _ _ _ c.in_ok-put_counter.ensures c.put_counter-2.ensures refl
+returns c = put_last _ _ _ _ _ _ _ c.in_ok-put_gauge.ensures c.put_gauge-2.ensures refl
