@@ -365,7 +365,7 @@ def list_readings():
     for word, *words in (
         ["next"], ["verify"], ["verify", "--seal", "0" * 64], ["story", "1/1/1"],
         ["explain", "--times"], ["sales", "--from", "2026-01-01", "--to", "2026-12-31"],
-        ["meters", "--shift", "1"], ["meters", "--gaps", "--json"],
+        ["meters", "--shift", "1"], ["meters", "--json"],
     ):  # fmt: skip
         yield [word, ended, *words], NOTHING
 

@@ -136,7 +136,7 @@ impl StationServer {
     /// are ended. At the day's end each session ends, what it is owed is sent as far as its
     /// connection takes it, and nobody is left; so too where waiting for connections fails, with
     /// `NoConnection`, and where the journal takes no more, with `NotStored`: then nobody is told
-    /// anything more. Of two faults that of the day's end is the one.
+    /// anything more.
     #[tactic(auto, using(crate::proofs::Rounds::moved))]
     pub fn serve<T: Wait, R: Clock + Eprint, D: Disk>(
         &mut self,
@@ -151,8 +151,8 @@ impl StationServer {
     {
         let served = self.serve_rounds(threads, rt, connections, idle);
         let ended = connections.end_all(rt, self.rounds.waited());
-        ended?;
         served?;
+        ended?;
         Ok(())
     }
 
