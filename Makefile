@@ -3,7 +3,7 @@
 PROGRAM := crates/forecourt/out/forecourt
 CRATES := $(patsubst crates/%/wrong-bodies,%,$(wildcard crates/*/wrong-bodies))
 
-.PHONY: help run build check smoke test audit bench
+.PHONY: help run build check smoke test audit bench package
 
 help:
 	@echo 'make run      compiles the program without proof and runs it on the three stored messages'
@@ -14,6 +14,7 @@ help:
 	@echo '              mutants of the gate, every test, and the built programs on their tables'
 	@echo '              and cases, with allocations and devices that fail; scripts/test runs one'
 	@echo '              suite of these tests, or one test'
+	@echo 'make package  builds the program, and makes the Debian package of it: out/packages'
 	@echo 'make audit    the mutants of the audit, of every crate or of CRATES="a b"'
 	@echo 'make bench    messages a second, memory, and their growth with the input; calls a second of'
 	@echo '              tills that collide; what a message costs with 5 and 64 points and with up to'
@@ -26,6 +27,9 @@ run:
 
 build:
 	@cd crates/forecourt && rt run < stdin > /dev/null && echo '$(PROGRAM)'
+
+package: build
+	scripts/package
 
 check:
 	rt all check

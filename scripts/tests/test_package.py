@@ -1,0 +1,237 @@
+"""The Debian package, as `make package` makes it: what is in it, that it is installed into a root of
+its own, runs from there, and leaves nothing behind when it is removed but the histories. Without
+`dpkg-deb` these tests are skipped; `lintian`, `systemd-analyze` and the shells are asked where they
+are installed."""
+
+import functools
+import os
+import re
+import shutil
+import subprocess
+import sys
+import urllib.request
+
+from shared import manuals
+from shared.checks import Skipped, expect
+from shared.running import EXAMPLES, SCRIPTS, run
+from tests.built import PROGRAM
+from tests.suite import make_folder, test
+
+HERE = make_folder()
+LEAST_SAFE = 2.5  # of systemd-analyze: 0 is the safest
+KEPT_BY_DPKG = re.compile(r"var/lib/dpkg/|etc/(passwd|group|shadow|gshadow|\.pwd\.lock)")
+SITE = "usr/share/doc/forecourt/examples/five_points.toml"
+
+
+def need(program):
+    if not shutil.which(program):
+        raise Skipped(f"there is no {program}")
+
+
+def make_package(folder):
+    """The package, made into a folder."""
+    need("dpkg-deb")
+    words = [sys.executable, SCRIPTS / "package", "--program", PROGRAM, "--into", folder]
+    made = run(*words)
+    expect("scripts/package", (made.status, made.err), (0, ""))
+    return made.out.decode().strip()
+
+
+@functools.cache
+def the_package():
+    return make_package(HERE / "packages")
+
+
+@functools.cache
+def unpacked():
+    """A folder with what is in the package."""
+    folder = HERE / "unpacked"
+    subprocess.run(["dpkg-deb", "-x", the_package(), folder], check=True)
+    return folder
+
+
+def make_root(name):
+    """A root without a package."""
+    root = HERE / name
+    for folder in ("etc", "var/lib/dpkg/info", "var/lib/dpkg/updates", "var/lib/dpkg/triggers"):
+        (root / folder).mkdir(parents=True)
+    (root / "var/lib/dpkg/status").touch()
+    return root
+
+
+def ask_dpkg(root, *words):
+    if os.geteuid() != 0:
+        raise Skipped("only root installs a package")
+    end = run("dpkg", f"--root={root}", "--force-script-chrootless", "--force-depends", *words)
+    expect(f"dpkg {words[0]}", end.status, 0)
+
+
+def files_of(root):
+    """The files of a root, but for those that dpkg and the users' tools keep."""
+    paths = (str(path.relative_to(root)) for path in root.rglob("*") if not path.is_dir())
+    return sorted(path for path in paths if not KEPT_BY_DPKG.match(path))
+
+
+def wanted_files():
+    """The files that are to be installed: those of the issue, and the examples."""
+    commands = ["", *manuals.read_help(PROGRAM, "").commands]
+    pages = [f"forecourt-{name}" if name else "forecourt" for name in commands if name != "help"]
+    return {
+        "usr/bin/forecourt",
+        "usr/lib/systemd/system/forecourt@.service",
+        "usr/lib/sysusers.d/forecourt.conf",
+        "usr/lib/tmpfiles.d/forecourt.conf",
+        "usr/share/bash-completion/completions/forecourt",
+        "usr/share/zsh/vendor-completions/_forecourt",
+        "usr/share/fish/vendor_completions.d/forecourt.fish",
+        "usr/share/doc/forecourt/copyright",
+        "usr/share/doc/forecourt/examples/till.py",
+        SITE,
+        *(f"usr/share/man/man1/{page}.1.gz" for page in pages),
+    }
+
+
+@test
+def the_same_sources_make_the_same_package():
+    """Made twice, it is the same, octet for octet."""
+    first, second = the_package(), make_package(HERE / "again")
+    with open(first, "rb") as one, open(second, "rb") as other:
+        expect("the second package", one.read() == other.read(), True)
+
+
+@test
+def it_is_installed_and_removed():
+    """Installed into a root of its own, each file is in its place, the user of stations is there,
+    and the program runs. Removed, nothing is left but a history."""
+    root = make_root("root")
+    ask_dpkg(root, "-i", the_package())
+    expect("missing files", wanted_files() - set(files_of(root)), set())
+    expect("user", "\nforecourt:" in "\n" + (root / "etc/passwd").read_text(), True)
+    stations = root / "var/lib/forecourt"
+    expect("mode of the stations' folder", oct(stations.stat().st_mode & 0o777), "0o711")
+    checked = run(root / "usr/bin/forecourt", "check", root / SITE)
+    expect("check", (checked.status, checked.out), (0, b"ok points 5 nozzles 10 products 2\n"))
+    (stations / "north/history").mkdir(parents=True)
+    (stations / "north/history/chapter-000001").write_text("a history\n")
+    ask_dpkg(root, "-P", "forecourt")
+    expect("left", files_of(root), ["var/lib/forecourt/north/history/chapter-000001"])
+
+
+@test
+def nothing_is_left_without_a_history():
+    """A package that is installed and purged, without a station, leaves no folder."""
+    root = make_root("empty")
+    ask_dpkg(root, "-i", the_package())
+    ask_dpkg(root, "-P", "forecourt")
+    expect("left", files_of(root), [])
+    expect("folder", (root / "var/lib/forecourt").exists(), False)
+
+
+@test
+def lintian_finds_no_error():
+    need("lintian")
+    looked = run("lintian", "--allow-root", the_package())
+    errors = [line for line in looked.out.decode().splitlines() if line.startswith("E:")]
+    expect("errors", (errors, looked.status), ([], 0))
+
+
+@test
+def the_unit_is_safe():
+    """`systemd-analyze` finds nothing wrong with the unit, and calls it safe."""
+    need("systemd-analyze")
+    unit = (unpacked() / "usr/lib/systemd/system/forecourt@.service").read_text()
+    path = HERE / "forecourt@.service"
+    path.write_text(unit.replace("/usr/bin/forecourt", str(unpacked() / "usr/bin/forecourt")))
+    verified = run("systemd-analyze", "verify", "--man=no", path)
+    expect("verify", (verified.status, verified.err), (0, ""))
+    looked = run("systemd-analyze", "security", "--offline=true", "--no-pager", path)
+    level = re.search(r"exposure level for \S+: ([0-9.]+)", looked.out.decode())
+    expect("exposure", float(level[1]) <= LEAST_SAFE, True)
+
+
+def calls_of(group):
+    """The calls of a group as the unit names it, as `@chown`, and of the groups in it."""
+    shown = run("systemd-analyze", "syscall-filter", group).out.decode().splitlines()[1:]
+    names = {line.strip() for line in shown if not line.strip().startswith("#")}
+    found = {name for name in names if name and not name.startswith("@")}
+    for inner in names - found - {""}:
+        found |= calls_of(inner)
+    return found
+
+
+def allowed_calls(unit):
+    """The calls that the unit's filter lets through: each line adds to them, or takes away."""
+    allowed = set()
+    for minus, groups in re.findall(r"^SystemCallFilter=(~?)(.*)$", unit, re.M):
+        calls = set().union(*(calls_of(group) for group in groups.split()))
+        allowed = allowed - calls if minus else allowed | calls
+    return allowed
+
+
+def trace_start(folder):
+    """The calls of the system that a station makes which answers a till at its door, and the page."""
+    words = "station --history history --doors doors --port 0 --page 0".split()
+    command = ["strace", "-f", "-qq", "-o", folder / "trace", PROGRAM, *words]
+    pipes = {"stdin": subprocess.PIPE, "stdout": subprocess.PIPE}
+    with subprocess.Popen(command, cwd=folder, **pipes) as station:
+        page = next(line for line in station.stdout if line.startswith(b"page "))
+        with urllib.request.urlopen(page.decode().split()[1] + "healthz") as answer:
+            expect("healthz", answer.read(), b"ok\n")
+        door = folder / "doors/till-01/socket"
+        asked = run(PROGRAM, "ask", "--door", door, given=b"t1 SignOn\n")
+        expect("ask", (asked.status, asked.err), (0, ""))
+        station.communicate()
+    expect("station", station.returncode, 0)
+    return set(re.findall(r"^\d+ +(\w+)\(", (folder / "trace").read_text(), re.M))
+
+
+@test
+def the_unit_lets_the_station_call():
+    """A station that begins a history, goes on with it, and answers a till and the page makes no
+    call of the system that the unit's filter refuses."""
+    need("systemd-analyze")
+    need("strace")
+    folder = HERE / "station"
+    (folder / "history").mkdir(parents=True)
+    (folder / "doors/till-01").mkdir(parents=True)
+    shutil.copy(EXAMPLES / "five_points.toml", folder / "history/site.toml")
+    made = trace_start(folder) | trace_start(folder)
+    unit = (unpacked() / "usr/lib/systemd/system/forecourt@.service").read_text()
+    expect("refused calls", made - allowed_calls(unit) - {"execve"}, set())
+
+
+@test
+def shells_read_the_completions():
+    """Each shell that is installed reads its completions, and they name each command."""
+    names = manuals.read_help(PROGRAM, "").commands
+    for shell, path in {
+        "bash": "usr/share/bash-completion/completions/forecourt",
+        "zsh": "usr/share/zsh/vendor-completions/_forecourt",
+        "fish": "usr/share/fish/vendor_completions.d/forecourt.fish",
+    }.items():
+        text = (unpacked() / path).read_text()
+        expect(f"{shell}: missing", [name for name in names if name not in text], [])
+        if shutil.which(shell):
+            read = run(shell, "-n", unpacked() / path)
+            expect(shell, (read.status, read.err), (0, ""))
+
+
+@test
+def bash_completes():
+    """bash completes a command, and an option of it."""
+    script = unpacked() / "usr/share/bash-completion/completions/forecourt"
+    for words, wanted in {("sta",): "station", ("station", "--doo"): "--doors"}.items():
+        line = " ".join(f"'{word}'" for word in ("forecourt", *words))
+        asked = f"""source '{script}'; COMP_WORDS=({line}); COMP_CWORD={len(words)}
+            _forecourt 2> /dev/null; echo "${{COMPREPLY[@]}}" """
+        expect(" ".join(words), run("bash", "-c", asked).out.decode().strip(), wanted)
+
+
+@test
+def each_option_is_in_its_page():
+    """The page of a command names each of its options."""
+    for one in manuals.read_helps(PROGRAM):
+        path = unpacked() / f"usr/share/man/man1/{manuals.page_name(one)}.1.gz"
+        page = run("gzip", "-dc", path).out.decode().replace("\\-", "-")
+        options = [name for option in one.options for name in option.names]
+        expect(path.name, [name for name in options if name not in page], [])
