@@ -1,4 +1,6 @@
+pub mod Coming
 pub mod Dues
+pub mod Feeding
 pub mod Known
 pub mod Leaving
 pub mod Linking

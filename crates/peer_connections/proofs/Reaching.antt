@@ -27,7 +27,8 @@ use Rattle.connection_calls.specs.declared.call.Call.{Call}
 use Rattle.connection_calls.specs.declared.call.Call.TheVariants.{Ended, Failed, Interrupted}
 use Rattle.connection_calls.specs.declared.call.Call.TheVariants.{Passed, Waits}
 use Rattle.peer_connections.specs.Allowed.{IsClosing, IsDismissal, IsEnding, IsFollowing}
-use Rattle.peer_connections.specs.Allowed.{IsHearing, IsLate, IsOwn, IsPassing, IsSameOrLeft}
+use Rattle.peer_connections.specs.Allowed.{IsHeard, IsHearing, IsLate, IsOwn, IsPassing}
+use Rattle.peer_connections.specs.Allowed.{IsSameOrLeft}
 use Rattle.peer_connections.specs.Allowed.{IsSending, IsWelcome, is_known, is_place_of}
 use Rattle.peer_connections.specs.Allowed.{is_served_at, lasts, lasts_at}
 use Rattle.peer_connections.specs.Calls.{HearsCall, HearsWithRoom, SendsCall}
@@ -126,6 +127,21 @@ reaches_wider a b wider s t by = record {
 pub reaches_any : (allowed : Move → StationState → Type 0) (s t : StoredState)
     → ReachesBy allowed s t → Reaches s t
 reaches_any allowed s t by = reaches_wider allowed IsAny (λ m u is. tt) s t by
+
+-- whoever is heard is one of those that are
+pub reaches_heard : (k : ℕ) (s t : StoredState) → ReachesBy (IsHearing k) s t
+    → ReachesBy IsHeard s t
+reaches_heard k s t by = reaches_wider (IsHearing k) IsHeard wider s t by
+  where
+    wider : (m : Move) (u : StationState) → IsHearing k m u → IsHeard m u
+    wider (Says memory j octets) u is = is.1
+    wider (Finishes j) u is = is.1
+    wider Forgets u is = tt
+    wider (Arrives j door) u is = absurd is
+    wider (Takes j n) u is = absurd is
+    wider (Leaves j) u is = absurd is
+    wider (EndsRelease on off p) u is = absurd is
+    wider (Loses memory p) u is = absurd is
 
 -- whoever is sent to may close
 pub reaches_closing : (k : ℕ) (s t : StoredState) → ReachesBy (IsSending k) s t
@@ -466,19 +482,20 @@ still_read k s t (inr forgets) read = ap (λ (x : StationState). is_read_at x k)
 
 -- what is read, where there is room, once the journal went on so far
 pub reaches_read : (call : Call) (k : ℕ) (left left' : Option (List ℕ)) (s t : StoredState)
-    → HasRoomToHear s.station.book → HearsCall call k left left' s.station t.station
+    → HasRoomToHear s.station.book → is_read_at s.station k ≡ true
+    → HearsCall call k left left' s.station t.station
     → JournalGoesOn s.journal t.journal → ReachesBy (IsHearing k) s t
-reaches_read (Passed n) k left left' s t room hears goes =
+reaches_read (Passed n) k left left' s t room read hears goes =
     reaches_by (IsHearing k) (Says hears.memory k hears.octets) s t
-    (omega (arith, hears.size, hears.few), room) refl hears.heard goes
-reaches_read Ended k left left' s t room hears goes =
-    reaches_by (IsHearing k) (Finishes k) s t tt refl hears.1 goes
-reaches_read Interrupted k left left' s t room hears goes =
+    (omega (arith, hears.size, hears.few), room) (refl, read) hears.heard goes
+reaches_read Ended k left left' s t room read hears goes =
+    reaches_by (IsHearing k) (Finishes k) s t tt (refl, read) hears.1 goes
+reaches_read Interrupted k left left' s t room read hears goes =
     reaches_kept (IsHearing k) s t hears.1 goes
-reaches_read Waits k left left' s t room hears goes =
+reaches_read Waits k left left' s t room read hears goes =
     reaches_kept (IsHearing k) s t hears.1 goes
-reaches_read Failed k left left' s t room hears goes =
-    reaches_by (IsHearing k) (Finishes k) s t tt refl hears.1 goes
+reaches_read Failed k left left' s t room read hears goes =
+    reaches_by (IsHearing k) (Finishes k) s t tt (refl, read) hears.1 goes
 
 -- room was made for what is read of this peer
 pub reaches_ready : (k : ℕ) (s t : StoredState) → IsSameOrForgets s.station t.station
@@ -495,7 +512,7 @@ reaches_heard_with_room call k left left' s t hears goes =
     let ready = with_station hears.ready s in
     reaches_then (IsHearing k) s ready t
     (reaches_ready k s ready hears.makes (goes_same s.journal s.journal refl))
-    (reaches_read call k left left' ready t hears.room hears.hears goes)
+    (reaches_read call k left left' ready t hears.room hears.of_read hears.hears goes)
 
 pub reaches_written : (call : Call) (k : ℕ) (got got' : Option (List ℕ)) (s t : StoredState)
     → SendsCall call k got got' s t → ReachesBy (IsSending k) s t
@@ -531,17 +548,17 @@ said_ready k s t (inl same) goes = refl
 said_ready k s t (inr forgets) goes = refl
 
 pub said_read : (call : Call) (k : ℕ) (left left' : Option (List ℕ)) (s t : StoredState)
-    (room : HasRoomToHear s.station.book)
+    (room : HasRoomToHear s.station.book) (read : is_read_at s.station k ≡ true)
     (hears : HearsCall call k left left' s.station t.station)
     (goes : JournalGoesOn s.journal t.journal)
-    → Consumes left left' (said_in (reaches_read call k left left' s t room hears goes).moves)
+    → Consumes left left' (said_in (reaches_read call k left left' s t room read hears goes).moves)
 unfolding reaches_read reaches_kept reaches_by
-said_read (Passed n) k left left' s t room hears goes =
+said_read (Passed n) k left left' s t room read hears goes =
     subst (Consumes left left') (sym (append-nil hears.octets)) hears.read
-said_read Ended k left left' s t room hears goes = hears.0
-said_read Interrupted k left left' s t room hears goes = consumed_none left left' hears.0
-said_read Waits k left left' s t room hears goes = consumed_none left left' hears.0
-said_read Failed k left left' s t room hears goes = consumed_none left left' hears.0
+said_read Ended k left left' s t room read hears goes = hears.0
+said_read Interrupted k left left' s t room read hears goes = consumed_none left left' hears.0
+said_read Waits k left left' s t room read hears goes = consumed_none left left' hears.0
+said_read Failed k left left' s t room read hears goes = consumed_none left left' hears.0
 
 -- ---- what each function is made of
 

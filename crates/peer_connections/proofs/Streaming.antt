@@ -9,7 +9,7 @@ use Rattle.devices.proofs.KnownBytes.{Appends-none, Appends-then, Consumes-none}
 use Rattle.devices.proofs.KnownBytes.{Consumes-then}
 use Rattle.station.specs.Moves.{StationState, take_by, with_taken}
 use Rattle.station.specs.Peers.{peer_at}
-use Rattle.station.specs.Reads.{owed_at, owed_to}
+use Rattle.station.specs.Reads.{is_read_at, owed_at, owed_to}
 use Rattle.station.specs.Runs.{Move}
 use Rattle.station.specs.Sessions.{Session}
 use Rattle.station.proofs.Peers.{peer_at-same}
@@ -78,11 +78,12 @@ heard_ready key left left' s t same made goes = record {
 
 -- one read
 heard_read : (call : Call) (key : ℕ) (left left' : Option (List ℕ)) (s t : StoredState)
-    → HasRoomToHear s.station.book → HearsCall call key left left' s.station t.station
+    → HasRoomToHear s.station.book → is_read_at s.station key ≡ true
+    → HearsCall call key left left' s.station t.station
     → JournalGoesOn s.journal t.journal → HearsStream key left left' s t
-heard_read call key left left' s t room hears goes = record {
-  moves = reaches_read call key left left' s t room hears goes;
-  read = said_read call key left left' s t room hears goes;
+heard_read call key left left' s t room read hears goes = record {
+  moves = reaches_read call key left left' s t room read hears goes;
+  read = said_read call key left left' s t room read hears goes;
 }
 
 -- .. for which room was made
@@ -93,7 +94,7 @@ heard_with_room call key left left' s t hears goes =
     let ready = with_station hears.ready s in
     heard_then key left left left' s ready t
     (heard_ready key left left s ready refl hears.makes (goes_same s.journal s.journal refl))
-    (heard_read call key left left' ready t hears.room hears.hears goes)
+    (heard_read call key left left' ready t hears.room hears.of_read hears.hears goes)
 
 -- ---- what is sent
 

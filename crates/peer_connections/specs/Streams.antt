@@ -6,7 +6,7 @@ use Rattle.station.specs.Runs.{Move, Says}
 use Rattle.journal.specs.Stored.{StoredState, told_at}
 use Rattle.peer_connections.specs.declared.link.Link.{Link}
 use Rattle.peer_connections.specs.Allowed.{IsClosing, IsHearing, IsSending}
-use Rattle.peer_connections.specs.Links.{has_link}
+use Rattle.peer_connections.specs.Links.{OthersStay, has_link}
 use Rattle.peer_connections.specs.Reaches.{ReachesBy}
 use Rattle.peer_connections.specs.Sending.{FailsAt, IsLetGo}
 
@@ -47,6 +47,11 @@ abbrev pub known_at : {S : Type 0} → (S → Option (List ℕ)) → List (Optio
     → Option (List ℕ)
 known_at known links k = known_of known (get_or links k None)
 
+-- .. of each connection it is what it was
+abbrev pub StayKnown : {S : Type 0} → (S → Option (List ℕ)) → List (Option (Link S))
+    → List (Option (Link S)) → Type 0
+StayKnown known links links' = (k : ℕ) → known_at known links' k ≡ known_at known links k
+
 -- a key's connection, if it is still there, got no more
 abbrev pub GetsNoMore : {S : Type 0} → (S → Option (List ℕ)) → ℕ → List (Option (Link S))
     → List (Option (Link S)) → Type 0
@@ -59,6 +64,7 @@ pub record SendsAndFollows {S : Type 0} (got : S → Option (List ℕ)) (key : �
     (links links' : List (Option (Link S))) (earlier later : StoredState) : Type 0 where
   pub sent_to : StoredState
   pub between : List (Option (Link S))
+  pub others : OthersStay key links between
   pub sends : SendsStream key (known_at got links key) (known_at got between key) earlier sent_to
   pub follows : ReachesBy (IsClosing key) sent_to later
   pub no_more : GetsNoMore got key between links'

@@ -102,6 +102,7 @@ impl<D: Disk, S: PeerSocket> Connections<D, S> {
     /// A peer is told that nothing more will come. Can it only take, or nothing at all?
     #[tactic(auto, using(crate::proofs::Sent::sent_to, crate::proofs::Known::known))]
     fn shut(&mut self, key: usize) -> bool
+        requires { lasts_at self.old.stored.station key ≡ false }
         ensures stored { self.new.stored ≡ self.old.stored }
         ensures others { OthersStay key self.old.links.items self.new.links.items }
         ensures sent { IsSentTo key self.old.stored self.old.links.items
@@ -111,7 +112,7 @@ impl<D: Disk, S: PeerSocket> Connections<D, S> {
     {
         if let Some(slot) = self.links.get_mut(key) {
             if let Some(link) = slot {
-                link.shut();
+                link.shut(&self.stored, key);
                 return link.channel != Channel::Open;
             }
         }
@@ -123,6 +124,7 @@ impl<D: Disk, S: PeerSocket> Connections<D, S> {
     pub(crate) fn remove(&mut self, key: usize)
         ensures left { self.new.stored
             ≡ with_station (without_peer key self.old.stored.station) self.old.stored }
+        ensures gone { has_link self.new.links.items key ≡ false }
         ensures others { OthersStay key self.old.links.items self.new.links.items }
         ensures got { GetsNoMore S.contents key self.old.links.items self.new.links.items }
         ensures due { self.new.due ≡ self.old.due }

@@ -1,22 +1,26 @@
 //! The server: it waits until connections are ready, round after round.
 
-ghost use Rattle.std.specs.Prelude.{◌≡◌, ◌<◌, None, OnOk, Some, true};
+ghost use Rattle.std.specs.Prelude.{◌≡◌, ◌<◌, IfSome, None, OnOk, Some, length, true};
 ghost use Rattle.station.specs.declared.sizes.TheConstants.{PEERS};
 ghost use Rattle.station.specs.Reads.{HasNoPeer};
+ghost use Rattle.feed_connections.specs.Served.{AreServed};
 ghost use Rattle.journal.specs.Stored.{is_all_stored};
-ghost use Rattle.peer_connections.specs.Allowed.{IsDismissal, IsHearing, IsWelcome};
+ghost use Rattle.peer_connections.specs.Allowed.{IsDismissal, IsFollowing, IsHeard, IsHearing};
+ghost use Rattle.peer_connections.specs.Allowed.{IsWelcome};
 ghost use Rattle.peer_connections.specs.Due.{StayDue, is_due};
 ghost use Rattle.peer_connections.specs.Reaches.{Reaches, ReachesBy};
-ghost use Rattle.peer_connections.specs.Sending.{HasChange, OwedAreDue};
+ghost use Rattle.peer_connections.specs.Sending.{AreSentTo, HasChange, KeepsChanges, OwedAreDue};
+ghost use Rattle.peer_connections.specs.Sending.{OwedAreSentTo};
 
 use crate::doors::Doors;
 use crate::fault::ServerFault;
 use crate::round_clock::RoundClock;
 use crate::sizes::{EVENTS_A_ROUND, ROUNDS_BEFORE_A_SWEEP, SWEEP_SECONDS};
 use connection_calls::{ACCEPTS_A_TURN, Caller, accept};
+use feed_connections::Feeds;
 use journal::{Disk, DiskFault};
 use mio::event::Event;
-use mio::net::{TcpListener, TcpStream, UnixStream};
+use mio::net::{TcpListener, TcpStream, UnixListener, UnixStream};
 use mio::{Events, Interest, Poll, Token, Waker};
 use page_connections::Pages;
 use peer_connections::{Connections, PeerStream};
@@ -38,6 +42,12 @@ const LISTENER: Token = Token(usize::MAX);
 const WAKER: Token = Token(usize::MAX - 1);
 /// What a new connection of the page is reported under.
 const PAGE_LISTENER: Token = Token(usize::MAX - 2);
+/// What a new connection of the feed is reported under, over TCP.
+const FEED_LISTENER: Token = Token(usize::MAX - 3);
+/// .. and at the feed's door.
+const FEED_DOOR: Token = Token(usize::MAX - 4);
+/// The key of the feed's first connection. Those of the page are below.
+const FIRST_FEED: usize = PEERS + 1_024;
 
 /// A listener on 127.0.0.1, if there is one, those of the doors, one of the page if there is one,
 /// and what waits for their connections.
@@ -51,6 +61,8 @@ pub struct StationServer {
     doors: Doors,
     pages: Option<Pages>,
     page_port: Option<u16>,
+    feeds: Option<Feeds>,
+    feed_port: Option<u16>,
     /// Connections may wait over TCP to be accepted.
     has_callers: bool,
     /// Accepting failed: it is tried again at the next sweep.
@@ -110,6 +122,19 @@ impl StationServer {
         }
     }
 
+    /// Listens for peers of the feed, too: on this port of 127.0.0.1, if there is one, on a free one
+    /// where it is 0, and at the feed's door, if there is one. `NoConnection` where that can't be.
+    pub fn bind_feed<N: Net>(&mut self, net: &N, port: Option<u16>) -> Result<(), ServerFault> {
+        let mut feeds = Feeds::new(self.alloc, FIRST_FEED, self.swept_at)?;
+        let port = add_feed_port(net, &self.poll, port, &mut feeds)?;
+        add_feed_door(&self.poll, self.doors.take_feed(), &mut feeds)?;
+        if let Some(earlier) = self.feeds.replace(feeds) {
+            earlier.close();
+        }
+        self.feed_port = port;
+        Ok(())
+    }
+
     /// Listens no more.
     pub fn close(self) {}
 
@@ -125,6 +150,13 @@ impl StationServer {
         ensures { result ≡ self.now.page_port }
     {
         self.page_port
+    }
+
+    /// The port of the feed, if it has one.
+    pub fn feed_port(&self) -> Option<u16>
+        ensures { result ≡ self.now.feed_port }
+    {
+        self.feed_port
     }
 
     /// What ends the day, from another thread.
@@ -151,6 +183,7 @@ impl StationServer {
     {
         let served = self.serve_rounds(threads, rt, connections, idle);
         let ended = connections.end_all(rt, self.rounds.waited());
+        self.serve_feed(rt, connections);
         served?;
         ended?;
         Ok(())
@@ -177,13 +210,15 @@ impl StationServer {
                 return Ok(());
             }
             self.send_all(rt, connections, idle)?;
-            self.serve_page(connections);
+            self.serve_page(rt, connections);
+            self.serve_feed(rt, connections);
             self.accept_waiting(rt, connections);
         }
         Ok(())
     }
 
-    /// Waits until connections are ready, but no longer than this, and each of them has its turn.
+    /// Waits until connections are ready, but no longer than this, and each of them has its turn. A
+    /// row that a dispenser is told of is noted, or still looked at.
     #[tactic(auto, using(crate::proofs::Rounds::moved, crate::proofs::Rounds::heard))]
     fn hear_round<R: Clock + Eprint, D: Disk>(
         &mut self,
@@ -191,8 +226,10 @@ impl StationServer {
         connections: &mut Connections<D, PeerStream>,
         timeout: Option<Duration>,
     ) -> Result<(), ServerFault>
-        ensures moves { Reaches connections.old.stored connections.new.stored }
+        ensures moves { ReachesBy IsHeard connections.old.stored connections.new.stored }
         ensures due { StayDue connections.old.due connections.new.due }
+        ensures noted { KeepsChanges connections.old.changes connections.new.changes
+            connections.new.stored.station.book }
     {
         match self.poll.poll(&mut self.events, timeout) {
             Ok(()) => {
@@ -216,8 +253,10 @@ impl StationServer {
         rt: &R,
         connections: &mut Connections<D, PeerStream>,
     ) -> Result<(), ServerFault>
-        ensures moves { Reaches connections.old.stored connections.new.stored }
+        ensures moves { ReachesBy IsHeard connections.old.stored connections.new.stored }
         ensures due { StayDue connections.old.due connections.new.due }
+        ensures noted { KeepsChanges connections.old.changes connections.new.changes
+            connections.new.stored.station.book }
     {
         if !self.is_sweep_due() {
             return Ok(());
@@ -233,7 +272,11 @@ impl StationServer {
 
     /// The connections of the page that are ready have their turn. Each row is stored: so it tells
     /// of no other.
-    fn serve_page<D: Disk>(&mut self, connections: &mut Connections<D, PeerStream>)
+    fn serve_page<R: Clock, D: Disk>(
+        &mut self,
+        rt: &R,
+        connections: &mut Connections<D, PeerStream>,
+    )
         requires { is_all_stored connections.old.stored ≡ true }
         ensures station { connections.new.stored.station ≡ connections.old.stored.station }
         ensures journal { connections.new.stored.journal ≡ connections.old.stored.journal }
@@ -252,6 +295,7 @@ impl StationServer {
                     connections.unpaid(),
                     connections.count(),
                     &sessions,
+                    self.clock.read(self.alloc, rt),
                     connections.open_since(),
                     connections.last_seal(),
                     self.rounds.waited(),
@@ -260,6 +304,27 @@ impl StationServer {
             }
         }
         pages.close_late(self.rounds.waited());
+    }
+
+    /// The connections of the feed that are ready, or wait for rows that are new, have their turn.
+    /// They are sent rows that were read once they were stored, and no others. Where memory was
+    /// wanting for these there is no feed any more, which is said.
+    fn serve_feed<R: Eprint, D: Disk>(&mut self, rt: &R, connections: &Connections<D, PeerStream>)
+        ensures { IfSome self.old.feeds (λ old. IfSome self.new.feeds
+            (λ new. IfSome connections.now.changes.fed
+            (λ fed. AreServed fed.rows old.places.items new.places.items))) }
+    {
+        let Some(feeds) = &mut self.feeds else {
+            return;
+        };
+        let now = self.rounds.waited();
+        match connections.fed_rows() {
+            Some(fed) => feeds.serve(self.poll.registry(), fed.rows(), fed.starts(), now),
+            None => {
+                self.feeds = None;
+                let _ = eprintln!(rt; "the feed has ended: out of memory");
+            }
+        }
     }
 
     /// How long it waits for the next round: as long as it takes, until the next sweep, or until
@@ -273,11 +338,13 @@ impl StationServer {
             return Some(left);
         }
         let is_page_busy = self.pages.as_ref().is_some_and(|pages| pages.is_busy());
+        let is_feed_busy = self.feeds.as_ref().is_some_and(|feeds| feeds.is_busy());
         if self.is_refused
             || connections.may_wait()
             || connections.keeps_up()
             || idle.is_some()
             || is_page_busy
+            || is_feed_busy
         {
             return Some(Duration::from_secs(SWEEP_SECONDS));
         }
@@ -290,8 +357,10 @@ impl StationServer {
         &mut self,
         connections: &mut Connections<D, PeerStream>,
     ) -> Result<(), ServerFault>
-        ensures moves { Reaches connections.old.stored connections.new.stored }
+        ensures moves { ReachesBy IsHeard connections.old.stored connections.new.stored }
         ensures due { StayDue connections.old.due connections.new.due }
+        ensures noted { KeepsChanges connections.old.changes connections.new.changes
+            connections.new.stored.station.book }
     {
         for event in &self.events {
             match event.token() {
@@ -306,6 +375,7 @@ impl StationServer {
                 token => {
                     if !self.doors.note_callers(token) {
                         note_page(&mut self.pages, token);
+                        note_feed(&mut self.feeds, event);
                     }
                 }
             }
@@ -532,10 +602,33 @@ impl StationServer {
         ensures moves { Reaches connections.old.stored connections.new.stored }
         ensures stored { OnOk result (is_all_stored connections.new.stored ≡ true) }
     {
-        self.note_due(connections);
-        connections.send_due(self.poll.registry(), rt, self.rounds.waited())?;
+        self.send_noted(rt, connections)?;
         self.sweep_if_due(rt, connections, idle)?;
         connections.read_on(self.poll.registry(), self.rounds.waited());
+        Ok(())
+    }
+
+    /// Stores the round's rows, and sends those that are due what they are owed. Where a dispenser
+    /// is told of a row of this round, each peer that is owed octets is sent them.
+    #[tactic(auto, using(crate::proofs::Rounds::moved, crate::proofs::Rounds::heard))]
+    fn send_noted<R: Eprint, D: Disk>(
+        &mut self,
+        rt: &R,
+        connections: &mut Connections<D, PeerStream>,
+    ) -> Result<(), ServerFault>
+        ensures moves { ReachesBy IsFollowing connections.old.stored connections.new.stored }
+        ensures stored { OnOk result (is_all_stored connections.new.stored ≡ true) }
+        ensures due { OnOk result (length connections.new.stored.station.book.rows
+            ≡ length connections.old.stored.station.book.rows
+            → AreSentTo connections.old.due connections.new.stored connections.new.links.items) }
+        ensures owed { OnOk result (length connections.new.stored.station.book.rows
+            ≡ length connections.old.stored.station.book.rows
+            → HasChange connections.old.changes connections.old.stored.station.book
+            → OwedAreSentTo connections.old.stored.station connections.old.links.items
+            connections.new.stored connections.new.links.items) }
+    {
+        self.note_due(connections);
+        connections.send_due(self.poll.registry(), rt, self.rounds.waited())?;
         Ok(())
     }
 
@@ -544,6 +637,7 @@ impl StationServer {
     #[tactic(auto, using(crate::proofs::Rounds::moved, crate::proofs::Rounds::heard))]
     fn note_due<D: Disk>(&self, connections: &mut Connections<D, PeerStream>)
         ensures stored { connections.new.stored ≡ connections.old.stored }
+        ensures links { connections.new.links ≡ connections.old.links }
         ensures due { StayDue connections.old.due connections.new.due }
         ensures owed { HasChange connections.old.changes connections.old.stored.station.book
             → OwedAreDue connections.new.stored.station connections.new.links.items
@@ -643,6 +737,8 @@ fn take_turn<D: Disk>(
     requires { key < PEERS }
     ensures moves { ReachesBy (IsHearing key) connections.old.stored connections.new.stored }
     ensures due { StayDue connections.old.due connections.new.due }
+    ensures noted { KeepsChanges connections.old.changes connections.new.changes
+        connections.new.stored.station.book }
     ensures now { OnOk result (is_due connections.new.due key ≡ true) }
 {
     if event.is_writable() {
@@ -662,6 +758,57 @@ fn note_page(pages: &mut Option<Pages>, token: Token) {
         (None, _) => {}
         (Some(pages), PAGE_LISTENER) => pages.note_callers(),
         (Some(pages), Token(key)) => pages.make_due(key),
+    }
+}
+
+/// A peer of the feed is ready, waits to be accepted, or takes no more.
+fn note_feed(feeds: &mut Option<Feeds>, event: &Event) {
+    match (feeds, event.token()) {
+        (None, _) => {}
+        (Some(feeds), FEED_LISTENER) => feeds.note_callers(),
+        (Some(feeds), FEED_DOOR) => feeds.note_callers(),
+        (Some(feeds), Token(key)) if event.is_write_closed() => feeds.leave(key),
+        (Some(feeds), Token(key)) => feeds.make_due(key),
+    }
+}
+
+/// Peers of the feed come on this port, if there is one, too. It says which one it is.
+fn add_feed_port<N: Net>(
+    net: &N,
+    poll: &Poll,
+    port: Option<u16>,
+    feeds: &mut Feeds,
+) -> Result<Option<u16>, ServerFault> {
+    let Some(port) = port else {
+        return Ok(None);
+    };
+    match watch_port(net, poll, port, FEED_LISTENER) {
+        Ok((listener, port)) => {
+            feeds.listen(listener)?;
+            Ok(Some(port))
+        }
+        Err(_) => Err(ServerFault::NoConnection),
+    }
+}
+
+/// Peers of the feed come at this door, if there is one, too.
+fn add_feed_door(
+    poll: &Poll,
+    door: Option<UnixListener>,
+    feeds: &mut Feeds,
+) -> Result<(), ServerFault> {
+    let Some(mut door) = door else {
+        return Ok(());
+    };
+    match poll
+        .registry()
+        .register(&mut door, FEED_DOOR, Interest::READABLE)
+    {
+        Ok(()) => {
+            feeds.listen_at_door(door)?;
+            Ok(())
+        }
+        Err(_) => Err(ServerFault::NoConnection),
     }
 }
 
@@ -738,6 +885,8 @@ fn listen<N: Net, C: Clock>(
         doors,
         pages: None,
         page_port: None,
+        feeds: None,
+        feed_port: None,
         has_callers: false,
         is_refused: false,
         has_accepted: false,

@@ -44,6 +44,7 @@ returns-in-Some g c =
       stream = record {
         sent_to = c.send_link.new.self.stored;
         between = c.send_link.new.self.links.items;
+        others = c.send_link.ensures.others;
         sends = c.send_link.ensures.stream;
         follows = reaches_then _ _ _ _ c.follow_session.ensures.moves
             (reaches_same _ _ _ c.report_again.ensures.stored);
@@ -79,6 +80,7 @@ pub returns-in-Some-Failed-clause-stream : goal.returns-in-Some-Failed-clause-st
 returns-in-Some-Failed-clause-stream g c = record {
   sent_to = c.send_link.new.self.stored;
   between = c.send_link.new.self.links.items;
+  others = c.send_link.ensures.others;
   sends = c.send_link.ensures.stream;
   follows = reaches_then _ _ _ _ (reaches_finished c.args.key _ _ c.finish.ensures)
       (reaches_then _ _ _ _ (reaches_same _ _ _ c.begin_to_close.ensures.stored)
@@ -101,6 +103,7 @@ pub returns-in-None-clause-stream : goal.returns-in-None-clause-stream
 returns-in-None-clause-stream g c = record {
   sent_to = c.send_link.new.self.stored;
   between = c.send_link.new.self.links.items;
+  others = c.send_link.ensures.others;
   sends = c.send_link.ensures.stream;
   follows = reaches_same _ _ _ refl;
   no_more = no_more_same g.S.Write.contents c.args.key c.send_link.new.self.links.items
@@ -116,6 +119,11 @@ pub invariant_of-self-clause-seen : goal.invariant_of-self-clause-seen
 invariant_of-self-clause-seen g c =
     seen_ended _ c.args.key c.send_link.new.self.stored _ c.finish.ensures
     c.send_link.new.self.seen
+
+pub invariant_of-self-clause-fed : goal.invariant_of-self-clause-fed
+invariant_of-self-clause-fed g c =
+    seen_ended _ c.args.key c.send_link.new.self.stored _ c.finish.ensures
+    c.send_link.new.self.fed
 
 pub invariant_of-self-clause-paired : goal.invariant_of-self-clause-paired
 invariant_of-self-clause-paired g c =

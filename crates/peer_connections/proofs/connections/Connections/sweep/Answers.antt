@@ -4,7 +4,7 @@ use Rattle.peer_connections.proofs.connections.Connections.sweep.Goals as goal
 
 pub returns-in_err-keep_up-clause-moves : goal.returns-in_err-keep_up-clause-moves
 returns-in_err-keep_up-clause-moves g c =
-    reaches_then _ _ _ _ c.loop-key.invariant (reaches_passing_own _ _ c.keep_up.ensures)
+    reaches_then _ _ _ _ c.loop-key.invariant (reaches_passing_own _ _ c.keep_up.ensures.moves)
 
 pub loop-key-preserved : goal.loop-key-preserved
 loop-key-preserved g c =
@@ -14,5 +14,5 @@ loop-key-preserved g c =
 pub returns-clause-moves : goal.returns-clause-moves
 returns-clause-moves g c =
     reaches_then _ _ _ _ c.loop-key.invariant
-    (reaches_then _ _ _ _ (reaches_passing_own _ _ c.keep_up.ensures)
+    (reaches_then _ _ _ _ (reaches_passing_own _ _ c.keep_up.ensures.moves)
     (reaches_passing _ _ c.send_due.ensures.moves))
