@@ -5,7 +5,7 @@
 FEED is the port of a station's feed, or the socket of its door: it is fed until it is stopped.
 FOLDER is a history, which `forecourt replay FOLDER --json` reads up to its end. What rows say of
 sales and the number of the next row are written in one transaction. So whatever is killed, no sale
-is lost, and none is kept twice. Both may take turns."""
+is lost, and none is kept twice. Both may take turns. Each history has a SALES.db of its own."""
 import json, os, socket, sqlite3, subprocess, sys, time  # noqa: E401
 
 TABLES = """

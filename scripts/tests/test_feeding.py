@@ -14,6 +14,7 @@ import time
 
 from shared import feed_day
 from shared.checks import expect
+from shared.feed_crowd import Crowd
 from shared.feed_day import FeedPeer, is_row
 from shared.histories import time_line, write_chapters, write_history, write_rows
 from shared.running import EXAMPLES, run
@@ -31,6 +32,8 @@ LAST_ROWS = 16_384  # that a station can feed
 FEEDS = 64  # at once
 FIRST_LINE, ALIVE, TAKING = 10, 10, 60  # seconds
 LATE = 3  # seconds that the station may be late with what it does by the clock
+KILLS, RETURNS = 50, 1_000  # of a crowd
+CROWD_ROWS, FLOOD_ROWS = 100, 5_500  # of each of four tills, between two kills
 SLOW_ROWS = 12_000  # whose lines are more than a door's socket holds
 SALE = ["t1 SignOn", "t1 Open 1", "t1 Release 1", "d1 Lift 1 1@0", "d1 HangUp 1 1@10000"]
 
@@ -444,3 +447,80 @@ def work_on(day, is_over):
                 for _ in range(100):
                     if not receive_message(peer):
                         return
+
+
+def work_at(day, till, count):
+    """A till opens and closes its point, fifty times at once, so often or until its session has
+    ended."""
+    pair = command_point(till, 1, till, OPEN) + command_point(till, 2, till, CLOSE)
+    with contextlib.suppress(OSError), day.day.connect() as peer:
+        peer.sendall(sign_on(till))
+        receive_message(peer)
+        for _ in range(count // 50):
+            peer.sendall(pair * 25)
+            if not all([receive_message(peer) for _ in range(50)]):
+                return
+
+
+def sell(day, number):
+    """Point 1 sells ten litres, and the shift is closed; ahead of it stands what ends a sale that a
+    kill has cut short. The session may end meanwhile."""
+    begin, end = 10_000 * number, 10_000 * (number + 1)
+    pay = "t1 Lock 1/1", "t1 Clear 1/1", "t1 CloseShift"
+    with contextlib.suppress(OSError, IndexError):
+        day.say(f"d1 HangUp 1 1@{begin}", SALE[0], "t1 Terminate 1", "t1 Close 1", *pay)
+        day.say(f"t1 ReplaceMeter 1 1@{begin}", *SALE[1:3], f"d1 Lift 1 1@{begin}")
+        day.say(f"d1 HangUp 1 1@{end}", *pay)
+
+
+def start_work(day, number, count):
+    """A sale, and four tills with so many rows each."""
+    calls = [(sell, number), *((work_at, till, count) for till in (2, 3, 4, 5))]
+    threads = [threading.Thread(target=call, args=(day, *words)) for call, *words in calls]
+    for thread in threads:
+        thread.start()
+    return threads
+
+
+def join(threads):
+    for thread in threads:
+        thread.join()
+
+
+def kill_at_work(day, number, crowd, chance):
+    """Tills work, and the station is killed meanwhile; in one run only once it has forgotten rows
+    that slow peers haven't."""
+    crowd.is_flooded = number == KILLS - 5
+    work = start_work(day, number, FLOOD_ROWS if crowd.is_flooded else CROWD_ROWS)
+    if crowd.is_flooded:
+        join(work)
+    time.sleep(chance.uniform(0, 0.6))
+    day.day.process.kill()
+    day.day.process.wait()
+    crowd.is_flooded = False
+    join(work)
+
+
+@test
+def a_crowd():
+    """64 peers, half of them slow, over 50 kills of the station and 1,000 times that one leaves and
+    comes back: each has each row once, in order, as the history has it. What is drawn at random are
+    times, which the machine makes different in each run: one seed will do."""
+    folder, doors, chance = HERE / "crowd", HERE / "crowd doors", start_chance(0, "feed crowd")
+    (doors / "feed").mkdir(parents=True)
+    start = functools.partial(start_feed, "--history", folder, "--doors", doors)
+    with Crowd(PROGRAM, folder, doors / "feed/socket", chance) as crowd:
+        for number in range(KILLS):
+            with start() as day:
+                crowd.port = day.port
+                kill_at_work(day, number, crowd, chance)
+        with start(told=f"no doors in {doors}\n") as day:
+            crowd.port = day.port
+            while crowd.count("returns") < RETURNS and not crowd.faults:
+                join(start_work(day, KILLS, CROWD_ROWS))
+            crowd.is_hurried, rows = True, len(replay(folder).splitlines())
+            wait_until(f"{rows} rows at each peer", lambda: crowd.have(rows))
+            crowd.is_over = True
+    expect("what is wrong", crowd.faults, [])
+    expect("each row once, in order", replay(folder).encode().startswith(crowd.octets), True)
+    expect("some read the files", crowd.count("readings") > 0, True)
