@@ -15,7 +15,7 @@ use Rattle.peer_connections.specs.declared.link.Link.{Link}
 use Rattle.peer_connections.specs.Allowed.{IsSending}
 use Rattle.peer_connections.specs.Links.{ArePaired, has_link, has_peer}
 use Rattle.peer_connections.specs.Sending.{FailsAt, IsLetGo}
-use Rattle.peer_connections.specs.Streams.{GetsNoMore, HearsStream, SendsStream, known_at}
+use Rattle.peer_connections.specs.Streams.{StaysKnownAt, HearsStream, SendsStream, known_at}
 use Rattle.peer_connections.specs.Streams.{StayKnown, known_of}
 use Rattle.peer_connections.proofs.Leaving.{left_gone}
 use Rattle.peer_connections.proofs.Linking.{others_same, others_set}
@@ -35,29 +35,32 @@ known_set : {S : Type 0} (known : S → Option (List ℕ)) (key : ℕ) (links : 
     → known_at known (set links key (Some link)) key ≡ known link.stream
 known_set known key links old link is = ap (known_of known) (set_there key links old link is)
 
--- ---- it got no more
+-- ---- what is known of it stays
 
 pub no_more_same : {S : Type 0} (got : S → Option (List ℕ)) (key : ℕ)
-    (links links' : List (Option (Link S))) → links' ≡ links → GetsNoMore got key links links'
-no_more_same got key links links' same is =
-    ap (λ (l : List (Option (Link _))). known_at got l key) same
+    (links links' : List (Option (Link S))) → links' ≡ links → StaysKnownAt got key links links'
+no_more_same got key links links' same is = (
+  ap (λ (l : List (Option (Link _))). has_link l key) (sym same) ∙ is,
+  ap (λ (l : List (Option (Link _))). known_at got l key) same,
+)
 
 pub no_more_set : {S : Type 0} (got : S → Option (List ℕ)) (key : ℕ)
     (links : List (Option (Link S))) (old link : Link S) → get_or links key None ≡ Some old
-    → got link.stream ≡ got old.stream → GetsNoMore got key links (set links key (Some link))
+    → got link.stream ≡ got old.stream → StaysKnownAt got key links (set links key (Some link))
 no_more_set got key links old link is same there =
-    known_set got key links old link is ∙ same ∙ sym (known_there got key links old is)
+    (ap is_some is, known_set got key links old link is ∙ same ∙ sym (known_there got key links old is))
 
 pub no_more_gone : {S : Type 0} (got : S → Option (List ℕ)) (key : ℕ)
-    (links : List (Option (Link S))) → GetsNoMore got key links (set links key None)
+    (links : List (Option (Link S))) → StaysKnownAt got key links (set links key None)
 no_more_gone got key links there =
     absurd (let never : false ≡ true = sym (ap is_some (gone_link key links)) ∙ there in cc)
 
--- .. in one thing after another: where it is there at the end, it was before
+-- .. in one thing after another
 pub no_more_then : {S : Type 0} (got : S → Option (List ℕ)) (key : ℕ)
-    (a b c : List (Option (Link S))) → (has_link c key ≡ true → has_link b key ≡ true)
-    → GetsNoMore got key a b → GetsNoMore got key b c → GetsNoMore got key a c
-no_more_then got key a b c was one two there = two there ∙ one (was there)
+    (a b c : List (Option (Link S))) → StaysKnownAt got key a b → StaysKnownAt got key b c
+    → StaysKnownAt got key a c
+no_more_then got key a b c one two there =
+    ((one (two there).0).0, (two there).1 ∙ (one (two there).0).1)
 
 -- ---- of each connection it is what it was
 

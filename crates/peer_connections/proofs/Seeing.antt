@@ -1,12 +1,11 @@
 -- No row is forgotten before it is looked at: which rows were, as the station moves.
 use Rattle.std.proofs.Common.{◌≡◌, ◌≤◌, ℕ, Bool, true, false, List, [], ◌∷◌, Option, Some, None}
 use Rattle.std.proofs.Common.{ap, append-nil, append_assoc, arith, inl, inr, length, refl, subst}
-use Rattle.std.proofs.Common.{suc, sym, zero, ◌++◌, ◌+◌, ◌<◌, ◌∙◌}
+use Rattle.std.proofs.Common.{suc, sym, zero, ◌++◌, ◌<◌, ◌∙◌}
 use Rattle.std.proofs.lemmas.Bool.Decides.{nat_tests}
 use Rattle.std.proofs.lemmas.List.{length-append}
 use Rattle.std.specs.Prelude.{if◌then◌else◌, nat_lt, slice_get}
 use Rattle.site_base.specs.declared.row.Row.{Row}
-use Rattle.site_book.specs.Changes.{is_changing}
 use Rattle.site_book.specs.Book.{Book, with_rows_forgotten}
 use Rattle.station.specs.Moves.{StationState, end_release, lose, with_end}
 use Rattle.station.specs.Moves.{without_peer}
@@ -230,6 +229,11 @@ moves_on (m ∷ ms) s =
     on_then s.book (after_move m s).book (after ms (after_move m s)).book (moved_on m s)
     (moves_on ms (after_move m s))
 
+-- a station that stays
+pub kept_on : (s t : StationState) → t ≡ s → GoesOn s.book t.book
+kept_on s t same =
+    subst (λ (u : StationState). GoesOn s.book u.book) (sym same) (on_same s.book)
+
 -- .. and so do those that lead from one station to another
 pub reached_on : (allowed : Move → StationState → Type 0) (s t : StoredState)
     → ReachesBy allowed s t → GoesOn s.station.book t.station.book
@@ -321,6 +325,18 @@ pub keeps_same : (watch watch' : ChangeWatch) (b : Book) → watch' ≡ watch
 keeps_same watch watch' b same later more has =
     subst (λ (w : ChangeWatch). HasChange w later) (sym same) has
 
+-- .. and what is noted is so still
+pub keeps_alike : (watch watch' : ChangeWatch) (b : Book) → watch'.has_changes ≡ watch.has_changes
+    → watch'.rows_seen ≡ watch.rows_seen → KeepsChanges watch watch' b
+keeps_alike watch watch' b noted seen later more (inl had) = inl (noted ∙ had)
+keeps_alike watch watch' b noted seen later more (inr from) = inr (record {
+  at = from.at;
+  row = from.row;
+  since = let far = from.since in omega (arith, seen, far);
+  there = from.there;
+  changing = from.changing;
+})
+
 -- one thing after another
 pub keeps_then : (a b c : ChangeWatch) (s t : Book) → GoesOn s t → KeepsChanges a b s
     → KeepsChanges b c t → KeepsChanges a c t
@@ -338,6 +354,7 @@ seen_same n o s t same is seen =
 -- a change is noted, or still isn't looked at
 pub ruleset kept = (
   keeps_same,
+  keeps_alike,
   keeps_then,
 )
 

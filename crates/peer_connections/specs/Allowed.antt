@@ -81,6 +81,11 @@ abbrev pub IsDismissal : Option ℕ → Move → StationState → Type 0
 IsDismissal door (Leaves j) s = (is_place_of door j ≡ true) × (is_served_at s j ≡ false)
 IsDismissal door m s = ⊥
 
+-- a peer arrives at this door, or over TCP
+abbrev pub IsArrival : Option ℕ → Move → StationState → Type 0
+IsArrival door (Arrives key at) s = at ≡ door
+IsArrival door m s = ⊥
+
 -- A peer comes at this door, or over TCP: it arrives there, and peers leave that aren't served, of
 -- that door or over TCP.
 abbrev pub IsWelcome : Option ℕ → Move → StationState → Type 0
@@ -117,10 +122,11 @@ IsEnding (Finishes j) s = ⊤
 IsEnding (Leaves j) s = ⊤
 IsEnding m s = ⊥
 
--- time passes: nobody comes, and nobody is heard
+-- time passes: nobody comes, is heard, or is sent anything
 abbrev pub IsPassing : Move → StationState → Type 0
 IsPassing (Arrives j door) s = ⊥
 IsPassing (Says memory j octets) s = ⊥
+IsPassing (Takes j n) s = ⊥
 IsPassing m s = ⊤
 
 -- the station acts by itself, for which the rows in memory may be forgotten

@@ -5,7 +5,7 @@ ghost use Rattle.std.specs.Prelude.{Some, option_copied, true};
 ghost use Rattle.chapters.specs.RowText.{kept_behind};
 ghost use Rattle.site_book.specs.Changes.{is_changing};
 ghost use Rattle.journal.specs.Stored.{is_all_stored, time_of};
-ghost use Rattle.peer_connections.specs.Fed.{AreRead, with_rows};
+ghost use Rattle.peer_connections.specs.Fed.{AreRead, BeginsChapter, with_rows};
 ghost use Rattle.peer_connections.specs.Sending.{HasChange, HasSeen};
 
 use crate::fed_rows::FedRows;
@@ -38,6 +38,7 @@ impl ChangeWatch {
     pub fn new(book: &SiteBook, watches_releases: bool) -> ChangeWatch
         ensures seen { HasSeen result.rows_seen book.now }
         ensures fed { HasSeen result.rows_fed book.now }
+        ensures all { result.rows_fed ≡ length book.now.rows }
     {
         ChangeWatch {
             rows_seen: book.len(),
@@ -91,6 +92,7 @@ impl ChangeWatch {
     /// The history's next chapter begins behind the rows that were read. Where memory is wanting
     /// the feed ends.
     pub fn begin_chapter(&mut self)
+        ensures fed { BeginsChapter self.old.fed self.new.fed }
         ensures seen { self.new.rows_seen ≡ self.old.rows_seen }
         ensures read { self.new.rows_fed ≡ self.old.rows_fed }
         ensures changes { self.new.has_changes ≡ self.old.has_changes }
@@ -109,7 +111,8 @@ impl ChangeWatch {
         requires { HasSeen self.old.rows_seen book.now }
         ensures noted { HasChange self.old book.now → self.new.has_changes ≡ true }
         ensures all { self.new.rows_seen ≡ length book.now.rows }
-        ensures fed { self.new.rows_fed ≡ self.old.rows_fed }
+        ensures read { self.new.rows_fed ≡ self.old.rows_fed }
+        ensures fed { self.new.fed ≡ self.old.fed }
     {
         let first = self.rows_seen;
         self.rows_seen = book.len();
@@ -125,7 +128,8 @@ impl ChangeWatch {
     fn look_at(&mut self, book: &SiteBook, place: u64)
         ensures had { self.old.has_changes ≡ true → self.new.has_changes ≡ true }
         ensures seen { self.new.rows_seen ≡ self.old.rows_seen }
-        ensures fed { self.new.rows_fed ≡ self.old.rows_fed }
+        ensures read { self.new.rows_fed ≡ self.old.rows_fed }
+        ensures fed { self.new.fed ≡ self.old.fed }
         ensures noted { book.now.forgotten ≤ place → IfSome (slice_get book.now.rows place)
             (λ row. is_changing row ≡ true → self.new.has_changes ≡ true) }
     {
@@ -138,7 +142,8 @@ impl ChangeWatch {
     fn note(&mut self, row: &Row)
         ensures changes { self.new.has_changes ≡ (self.old.has_changes || is_changing row.now) }
         ensures seen { self.new.rows_seen ≡ self.old.rows_seen }
-        ensures fed { self.new.rows_fed ≡ self.old.rows_fed }
+        ensures read { self.new.rows_fed ≡ self.old.rows_fed }
+        ensures fed { self.new.fed ≡ self.old.fed }
     {
         if is_changing(row) {
             self.has_changes = true;
@@ -152,7 +157,8 @@ impl ChangeWatch {
     pub fn take_released(&mut self) -> PointSet
         ensures changes { self.new.has_changes ≡ self.old.has_changes }
         ensures seen { self.new.rows_seen ≡ self.old.rows_seen }
-        ensures fed { self.new.rows_fed ≡ self.old.rows_fed }
+        ensures read { self.new.rows_fed ≡ self.old.rows_fed }
+        ensures fed { self.new.fed ≡ self.old.fed }
     {
         let released = self.released;
         self.released = PointSet::new();
@@ -164,7 +170,8 @@ impl ChangeWatch {
         ensures had { result ≡ self.old.has_changes }
         ensures none { self.new.has_changes ≡ false }
         ensures seen { self.new.rows_seen ≡ self.old.rows_seen }
-        ensures fed { self.new.rows_fed ≡ self.old.rows_fed }
+        ensures read { self.new.rows_fed ≡ self.old.rows_fed }
+        ensures fed { self.new.fed ≡ self.old.fed }
     {
         let had_changes = self.has_changes;
         self.has_changes = false;

@@ -8,7 +8,7 @@ ghost use Rattle.peer_connections.specs.Allowed.{IsClosing, lasts_at};
 ghost use Rattle.peer_connections.specs.Links.{OthersStay, has_link};
 ghost use Rattle.peer_connections.specs.Reaches.{ReachesBy};
 ghost use Rattle.peer_connections.specs.Sending.{IsLetGo, IsSentTo};
-ghost use Rattle.peer_connections.specs.Streams.{GetsNoMore};
+ghost use Rattle.peer_connections.specs.Streams.{StaysKnownAt};
 
 use crate::connections::Connections;
 use crate::link::Channel;
@@ -28,7 +28,8 @@ impl<D: Disk, S: PeerSocket> Connections<D, S> {
         ensures others { OthersStay key self.old.links.items self.new.links.items }
         ensures sent { IsSentTo key self.old.stored self.old.links.items
             → IsSentTo key self.new.stored self.new.links.items }
-        ensures got { GetsNoMore S.contents key self.old.links.items self.new.links.items }
+        ensures got { StaysKnownAt S.contents key self.old.links.items self.new.links.items }
+        ensures changes { self.new.changes ≡ self.old.changes }
         ensures due { self.new.due ≡ self.old.due }
     {
         if !self.note_closing(key, now) {
@@ -53,7 +54,9 @@ impl<D: Disk, S: PeerSocket> Connections<D, S> {
         ensures others { OthersStay key self.old.links.items self.new.links.items }
         ensures sent { IsSentTo key self.old.stored self.old.links.items
             → IsSentTo key self.new.stored self.new.links.items }
-        ensures got { GetsNoMore S.contents key self.old.links.items self.new.links.items }
+        ensures unread { StaysKnownAt S.remaining key self.old.links.items self.new.links.items }
+        ensures got { StaysKnownAt S.contents key self.old.links.items self.new.links.items }
+        ensures changes { self.new.changes ≡ self.old.changes }
         ensures due { self.new.due ≡ self.old.due }
     {
         if let Some(slot) = self.links.get_mut(key) {
@@ -84,7 +87,8 @@ impl<D: Disk, S: PeerSocket> Connections<D, S> {
             self.new.links.items }
         ensures stays { has_link self.new.links.items key ≡ true
             → self.new.stored ≡ self.old.stored }
-        ensures got { GetsNoMore S.contents key self.old.links.items self.new.links.items }
+        ensures got { StaysKnownAt S.contents key self.old.links.items self.new.links.items }
+        ensures changes { self.new.changes ≡ self.old.changes }
         ensures due { self.new.due ≡ self.old.due }
     {
         if end == PeerEnd::Behind {
@@ -107,7 +111,8 @@ impl<D: Disk, S: PeerSocket> Connections<D, S> {
         ensures others { OthersStay key self.old.links.items self.new.links.items }
         ensures sent { IsSentTo key self.old.stored self.old.links.items
             → IsSentTo key self.new.stored self.new.links.items }
-        ensures got { GetsNoMore S.contents key self.old.links.items self.new.links.items }
+        ensures got { StaysKnownAt S.contents key self.old.links.items self.new.links.items }
+        ensures changes { self.new.changes ≡ self.old.changes }
         ensures due { self.new.due ≡ self.old.due }
     {
         if let Some(slot) = self.links.get_mut(key) {
@@ -126,7 +131,9 @@ impl<D: Disk, S: PeerSocket> Connections<D, S> {
             ≡ with_station (without_peer key self.old.stored.station) self.old.stored }
         ensures gone { has_link self.new.links.items key ≡ false }
         ensures others { OthersStay key self.old.links.items self.new.links.items }
-        ensures got { GetsNoMore S.contents key self.old.links.items self.new.links.items }
+        ensures unread { StaysKnownAt S.remaining key self.old.links.items self.new.links.items }
+        ensures got { StaysKnownAt S.contents key self.old.links.items self.new.links.items }
+        ensures changes { self.new.changes ≡ self.old.changes }
         ensures due { self.new.due ≡ self.old.due }
     {
         self.stored.leave(key);

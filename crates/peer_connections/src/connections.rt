@@ -1,13 +1,15 @@
 //! The connections of all peers, and the station that they speak with.
 
-ghost use Rattle.std.specs.Prelude.{◌≡◌, ℕ, false, length, IfOk, IfSome, OnOk, Some, is_some};
-ghost use Rattle.std.specs.Prelude.{option_copied, true};
+ghost use Rattle.std.specs.Prelude.{◌≡◌, ℕ, false, length, IfOk, IfSome, OnErr, OnOk, Some};
+ghost use Rattle.std.specs.Prelude.{is_some, option_copied, true};
+ghost use Rattle.chapters.specs.RowText.{kept_behind};
 ghost use Rattle.site_book.specs.Unpaid.{unpaid_sales};
 ghost use Rattle.station.specs.declared.sizes.TheConstants.{HEARD_OCTETS};
 ghost use Rattle.station.specs.Runs.{opening_station};
-ghost use Rattle.journal.specs.Stored.{JournalGoesOn, is_all_stored, since_of};
+ghost use Rattle.journal.specs.Stored.{JournalGoesOn, is_all_stored, since_of, time_of};
+ghost use Rattle.peer_connections.specs.Fed.{AreRead};
 ghost use Rattle.peer_connections.specs.Links.{ArePaired, has_link};
-ghost use Rattle.peer_connections.specs.Sending.{HasSeen};
+ghost use Rattle.peer_connections.specs.Sending.{HasSeen, KeepsChanges};
 
 use crate::change_watch::ChangeWatch;
 use crate::due_list::DueList;
@@ -134,6 +136,8 @@ impl<D: Disk, S: PeerSocket> Connections<D, S> {
         ensures station { self.new.stored.station ≡ self.old.stored.station }
         ensures journal { self.new.stored.journal ≡ self.old.stored.journal }
         ensures links { self.new.links ≡ self.old.links }
+        ensures changes { self.new.changes ≡ self.old.changes }
+        ensures due { self.new.due ≡ self.old.due }
         ensures unpaid { OnOk result (self.new.stored.unpaid.sales
             ≡ unpaid_sales self.new.stored.station.book) }
     {
@@ -169,11 +173,17 @@ impl<D: Disk, S: PeerSocket> Connections<D, S> {
     }
 
     /// Stores each row that isn't stored yet: its peers may be told then.
-    #[tactic(auto, using(crate::proofs::Reaching::moved, crate::proofs::Pairing::paired))]
+    #[tactic(auto, using(crate::proofs::Reaching::moved, crate::proofs::Pairing::paired, crate::proofs::Seeing::kept))]
     pub(crate) fn store(&mut self) -> Result<(), DiskFault>
         ensures journal { JournalGoesOn self.old.stored.journal self.new.stored.journal }
         ensures station { self.new.stored.station ≡ self.old.stored.station }
         ensures stored { OnOk result (is_all_stored self.new.stored ≡ true) }
+        ensures fed { OnOk result (AreRead (time_of self.new.stored.journal)
+            (kept_behind self.old.changes.rows_fed self.new.stored.station.book.rows)
+            self.old.changes.fed self.new.changes.fed) }
+        ensures unfed { OnErr result (self.new.changes ≡ self.old.changes) }
+        ensures noted { KeepsChanges self.old.changes self.new.changes
+            self.new.stored.station.book }
         ensures links { self.new.links ≡ self.old.links }
         ensures due { self.new.due ≡ self.old.due }
     {
@@ -183,11 +193,13 @@ impl<D: Disk, S: PeerSocket> Connections<D, S> {
     }
 
     /// Stores each row that isn't stored yet. Then the history's chapter ends, if it is over.
-    #[tactic(auto, using(crate::proofs::Reaching::moved))]
+    #[tactic(auto, using(crate::proofs::Reaching::moved, crate::proofs::Seeing::kept))]
     pub(crate) fn store_and_end<E: Eprint>(&mut self, rt: &E) -> Result<(), DiskFault>
         ensures journal { JournalGoesOn self.old.stored.journal self.new.stored.journal }
         ensures station { self.new.stored.station ≡ self.old.stored.station }
         ensures stored { OnOk result (is_all_stored self.new.stored ≡ true) }
+        ensures noted { KeepsChanges self.old.changes self.new.changes
+            self.new.stored.station.book }
         ensures links { self.new.links ≡ self.old.links }
         ensures due { self.new.due ≡ self.old.due }
     {
@@ -197,12 +209,14 @@ impl<D: Disk, S: PeerSocket> Connections<D, S> {
 
     /// Each row is stored: the history's chapter ends, if it is over. Where there can't be a next
     /// one now it goes on, which is said once.
-    #[tactic(auto, using(crate::proofs::Pairing::paired))]
+    #[tactic(auto, using(crate::proofs::Pairing::paired, crate::proofs::Seeing::kept))]
     fn end_chapter<E: Eprint>(&mut self, rt: &E) -> Result<(), DiskFault>
         requires { is_all_stored self.old.stored ≡ true }
         ensures station { self.new.stored.station ≡ self.old.stored.station }
         ensures journal { JournalGoesOn self.old.stored.journal self.new.stored.journal }
         ensures stored { is_all_stored self.new.stored ≡ true }
+        ensures noted { KeepsChanges self.old.changes self.new.changes
+            self.new.stored.station.book }
         ensures links { self.new.links ≡ self.old.links }
         ensures due { self.new.due ≡ self.old.due }
     {

@@ -41,6 +41,7 @@ impl<D: Disk, S: PeerSocket> Connections<D, S> {
         ensures stored { self.new.stored ≡ self.old.stored }
         ensures left { StayKnown S.remaining self.old.links.items self.new.links.items }
         ensures got { StayKnown S.contents self.old.links.items self.new.links.items }
+        ensures changes { self.new.changes ≡ self.old.changes }
         ensures due { self.new.due ≡ self.old.due }
     {
         if !self.is_read_on_due(now) {
@@ -72,6 +73,7 @@ impl<D: Disk, S: PeerSocket> Connections<D, S> {
         ensures stored { self.new.stored ≡ self.old.stored }
         ensures left { StayKnown S.remaining self.old.links.items self.new.links.items }
         ensures got { StayKnown S.contents self.old.links.items self.new.links.items }
+        ensures changes { self.new.changes ≡ self.old.changes }
         ensures due { self.new.due ≡ self.old.due }
     {
         let Some(until) = self.held_until(key) else {

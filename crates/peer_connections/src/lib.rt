@@ -25,6 +25,7 @@ mod peer_stream;
 mod places;
 mod round_end;
 mod row_room;
+mod session_over;
 mod sessions;
 mod shift_warning;
 mod sizes;

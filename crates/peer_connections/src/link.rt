@@ -12,6 +12,7 @@ use crate::calls::{read_ignored, read_with_room, write_once};
 use crate::change_watch::ChangeWatch;
 use crate::held_back::after;
 use crate::peer_stream::PeerSocket;
+use crate::session_over::SessionOver;
 use crate::sizes::{FIRST_HOLD_MILLISECONDS, HOLD_MILLISECONDS};
 use connection_calls::{CALLS_A_TURN, Call};
 use journal::{Disk, DiskFault, StoredStation};
@@ -177,11 +178,10 @@ impl<S: Read> Link<S> {
     )
         requires ended { lasts_at stored.now.station key ≡ false }
     {
-        // That is why nobody hears it.
-        let _ = stored.end(key);
+        let over = SessionOver::of(stored, key);
         self.is_unread = true;
         for _ in 0..CALLS_A_TURN {
-            match read_ignored(&mut self.stream, piece) {
+            match read_ignored(&mut self.stream, piece, over) {
                 Call::Passed(_) | Call::Interrupted => {}
                 Call::Waits => {
                     self.is_unread = false;
@@ -242,11 +242,10 @@ impl<S: PeerSocket> Link<S> {
         ensures unsent { self.new.is_unsent ≡ self.old.is_unsent }
         ensures channel { self.new.channel ≡ self.old.channel }
     {
-        // That is why nothing more will come.
-        let _ = stored.end(key);
+        let over = SessionOver::of(stored, key);
         if !self.is_shut {
             self.is_shut = true;
-            self.stream.shut();
+            self.stream.shut(over);
         }
     }
 }

@@ -3,6 +3,7 @@
 ghost use Rattle.std.specs.Prelude.{◌≡◌};
 ghost use Rattle.peer_connections.specs.Allowed.{IsOwn};
 ghost use Rattle.peer_connections.specs.Reaches.{ReachesBy};
+ghost use Rattle.peer_connections.specs.Sending.{KeepsChanges};
 
 use crate::connections::Connections;
 use crate::nodes::point_of;
@@ -37,11 +38,14 @@ impl<D: Disk, S: PeerSocket> Connections<D, S> {
     }
 
     /// Dispensers that are gone for too long are lost, and releases that stand for too long end.
-    /// Their rows are looked at, and their notices are due.
-    #[tactic(auto, using(crate::proofs::Reaching::done_alone))]
+    /// Their rows are still to be looked at.
+    #[tactic(auto, using(crate::proofs::Reaching::done_alone, crate::proofs::Seeing::kept))]
     pub(crate) fn keep_up(&mut self, now: Instant) -> Result<(), DiskFault>
         ensures moves { ReachesBy IsOwn self.old.stored self.new.stored }
         ensures links { self.new.links ≡ self.old.links }
+        ensures due { self.new.due ≡ self.old.due }
+        ensures noted { KeepsChanges self.old.changes self.new.changes
+            self.new.stored.station.book }
     {
         if !self.keeps_up() {
             return Ok(());
@@ -50,15 +54,17 @@ impl<D: Disk, S: PeerSocket> Connections<D, S> {
         for number in 1..=POINTS {
             self.look_at_point(number, now);
         }
-        self.make_owed_due();
         Ok(())
     }
 
     /// At a start no release of the day before stands: each ends, if there is a house till.
-    #[tactic(auto, using(crate::proofs::Reaching::done_alone))]
+    #[tactic(auto, using(crate::proofs::Reaching::done_alone, crate::proofs::Seeing::kept))]
     pub fn end_releases(&mut self) -> Result<(), DiskFault>
         ensures moves { ReachesBy IsOwn self.old.stored self.new.stored }
         ensures links { self.new.links ≡ self.old.links }
+        ensures due { self.new.due ≡ self.old.due }
+        ensures noted { KeepsChanges self.old.changes self.new.changes
+            self.new.stored.station.book }
     {
         self.make_own_room()?;
         for number in 1..=POINTS {
@@ -72,6 +78,8 @@ impl<D: Disk, S: PeerSocket> Connections<D, S> {
     fn end_release_of(&mut self, number: u8)
         ensures moves { ReachesBy IsOwn self.old.stored self.new.stored }
         ensures links { self.new.links ≡ self.old.links }
+        ensures due { self.new.due ≡ self.old.due }
+        ensures changes { self.new.changes ≡ self.old.changes }
     {
         if let Some(p) = FpNo::new(number) {
             self.end_release(p);
@@ -84,6 +92,9 @@ impl<D: Disk, S: PeerSocket> Connections<D, S> {
     fn make_own_room(&mut self) -> Result<(), DiskFault>
         ensures moves { ReachesBy IsOwn self.old.stored self.new.stored }
         ensures links { self.new.links ≡ self.old.links }
+        ensures due { self.new.due ≡ self.old.due }
+        ensures noted { KeepsChanges self.old.changes self.new.changes
+            self.new.stored.station.book }
     {
         make_room(&mut self.stored, &mut self.changes)
     }
@@ -93,6 +104,8 @@ impl<D: Disk, S: PeerSocket> Connections<D, S> {
     fn look_at_point(&mut self, number: u8, now: Instant)
         ensures moves { ReachesBy IsOwn self.old.stored self.new.stored }
         ensures links { self.new.links ≡ self.old.links }
+        ensures due { self.new.due ≡ self.old.due }
+        ensures changes { self.new.changes ≡ self.old.changes }
     {
         let Some(p) = FpNo::new(number) else {
             return;
@@ -111,6 +124,8 @@ impl<D: Disk, S: PeerSocket> Connections<D, S> {
     fn look_at_release(&mut self, p: FpNo, is_released: bool, now: Instant)
         ensures moves { ReachesBy IsOwn self.old.stored self.new.stored }
         ensures links { self.new.links ≡ self.old.links }
+        ensures due { self.new.due ≡ self.old.due }
+        ensures changes { self.new.changes ≡ self.old.changes }
     {
         let at = self.round_at.unwrap_or(now);
         if self.upkeep.is_stale(p, is_released, at) {
@@ -123,6 +138,8 @@ impl<D: Disk, S: PeerSocket> Connections<D, S> {
     fn look_at_dispenser(&mut self, p: FpNo, now: Instant)
         ensures moves { ReachesBy IsOwn self.old.stored self.new.stored }
         ensures links { self.new.links ≡ self.old.links }
+        ensures due { self.new.due ≡ self.old.due }
+        ensures changes { self.new.changes ≡ self.old.changes }
     {
         if !self.upkeep.looks_for_lost() {
             return;
@@ -137,6 +154,8 @@ impl<D: Disk, S: PeerSocket> Connections<D, S> {
     fn end_release(&mut self, p: FpNo)
         ensures moves { ReachesBy IsOwn self.old.stored self.new.stored }
         ensures links { self.new.links ≡ self.old.links }
+        ensures due { self.new.due ≡ self.old.due }
+        ensures changes { self.new.changes ≡ self.old.changes }
     {
         self.stored.end_release(p);
     }
@@ -145,6 +164,8 @@ impl<D: Disk, S: PeerSocket> Connections<D, S> {
     fn lose_dispenser(&mut self, p: FpNo) -> bool
         ensures moves { ReachesBy IsOwn self.old.stored self.new.stored }
         ensures links { self.new.links ≡ self.old.links }
+        ensures due { self.new.due ≡ self.old.due }
+        ensures changes { self.new.changes ≡ self.old.changes }
     {
         let rows = self.stored.book().len();
         self.stored.lose_dispenser(p);

@@ -3,11 +3,10 @@
 
 ghost use Rattle.std.specs.Prelude.{◌≡◌, ◌<◌, ◌≤◌, ◌⊎◌, IfOk, IfSome, None, OnErr, Some, false, ℕ};
 ghost use Rattle.std.specs.Prelude.{is_some, true};
-ghost use Rattle.peer_connections.specs.Allowed.{IsDismissal, IsSameOrLeft, IsWelcome, is_place_of};
-ghost use Rattle.peer_connections.specs.Allowed.{is_served_at};
-ghost use Rattle.peer_connections.specs.Coming.{IsOver, IsTurnedAway, OneComes};
+ghost use Rattle.peer_connections.specs.Allowed.{IsArrival, IsSameOrLeft, is_place_of, is_served_at};
+ghost use Rattle.peer_connections.specs.Coming.{Dismisses, IsOver, IsTurnedAway, Welcomes};
 ghost use Rattle.peer_connections.specs.Links.{ArePaired, AwaitsLink, ComesTo, OthersStay};
-ghost use Rattle.peer_connections.specs.Links.{StayOrGo, StaysOrGoes};
+ghost use Rattle.peer_connections.specs.Links.{StaysOrGoes};
 ghost use Rattle.peer_connections.specs.Reaches.{ReachesBy};
 
 use crate::connections::Connections;
@@ -25,9 +24,9 @@ impl<D: Disk, S: PeerSocket> Connections<D, S> {
     /// closed.
     #[tactic(auto, using(crate::proofs::Reaching::welcomed, crate::proofs::Coming::coming))]
     pub fn welcome<E: Eprint>(&mut self, registry: &Registry, rt: &E, stream: S, now: Instant)
-        ensures moves { ReachesBy (IsWelcome None) self.old.stored self.new.stored }
-        ensures links { OneComes S.remaining S.contents stream self.old.links.items
-            self.new.links.items }
+        ensures comes { Welcomes S.remaining S.contents None stream self.old.links.items
+            self.new.links.items self.old.stored self.new.stored }
+        ensures changes { self.new.changes ≡ self.old.changes }
     {
         self.settle_or_say(registry, rt, None, stream, now);
     }
@@ -42,9 +41,9 @@ impl<D: Disk, S: PeerSocket> Connections<D, S> {
         stream: S,
         now: Instant,
     )
-        ensures moves { ReachesBy (IsWelcome (Some door)) self.old.stored self.new.stored }
-        ensures links { OneComes S.remaining S.contents stream self.old.links.items
-            self.new.links.items }
+        ensures comes { Welcomes S.remaining S.contents (Some door) stream self.old.links.items
+            self.new.links.items self.old.stored self.new.stored }
+        ensures changes { self.new.changes ≡ self.old.changes }
     {
         self.settle_or_say(registry, rt, Some(door), stream, now);
     }
@@ -59,9 +58,9 @@ impl<D: Disk, S: PeerSocket> Connections<D, S> {
         stream: S,
         now: Instant,
     )
-        ensures moves { ReachesBy (IsWelcome door) self.old.stored self.new.stored }
-        ensures links { OneComes S.remaining S.contents stream self.old.links.items
-            self.new.links.items }
+        ensures comes { Welcomes S.remaining S.contents door stream self.old.links.items
+            self.new.links.items self.old.stored self.new.stored }
+        ensures changes { self.new.changes ≡ self.old.changes }
     {
         match self.settle(registry, door, stream, now) {
             Arrival::Done => {}
@@ -86,9 +85,9 @@ impl<D: Disk, S: PeerSocket> Connections<D, S> {
         stream: S,
         now: Instant,
     ) -> Arrival<S>
-        ensures moves { ReachesBy (IsWelcome door) self.old.stored self.new.stored }
-        ensures links { OneComes S.remaining S.contents stream self.old.links.items
-            self.new.links.items }
+        ensures comes { Welcomes S.remaining S.contents door stream self.old.links.items
+            self.new.links.items self.old.stored self.new.stored }
+        ensures changes { self.new.changes ≡ self.old.changes }
     {
         match self.arrive(registry, door, stream, now) {
             Arrival::NoPlace(stream) => {
@@ -118,9 +117,9 @@ impl<D: Disk, S: PeerSocket> Connections<D, S> {
         stream: S,
         now: Instant,
     ) -> Arrival<S>
-        ensures moves { ReachesBy (IsWelcome door) self.old.stored self.new.stored }
-        ensures links { OneComes S.remaining S.contents stream self.old.links.items
-            self.new.links.items }
+        ensures comes { Welcomes S.remaining S.contents door stream self.old.links.items
+            self.new.links.items self.old.stored self.new.stored }
+        ensures changes { self.new.changes ≡ self.old.changes }
         ensures away { IsTurnedAway stream result self.old.links.items self.new.links.items }
     {
         match arrive_in(&mut self.stored, door) {
@@ -140,8 +139,9 @@ impl<D: Disk, S: PeerSocket> Connections<D, S> {
     /// that has waited longest without a whole message. False where none waits so.
     #[tactic(auto, using(crate::proofs::Reaching::welcomed, crate::proofs::Coming::coming))]
     pub fn make_way(&mut self) -> bool
-        ensures moves { ReachesBy (IsDismissal None) self.old.stored self.new.stored }
-        ensures links { StayOrGo self.old.links.items self.new.links.items }
+        ensures gone { Dismisses None self.old.links.items self.new.links.items self.old.stored
+            self.new.stored }
+        ensures changes { self.new.changes ≡ self.old.changes }
     {
         self.dismiss_longest_waiting(None)
     }
@@ -150,8 +150,9 @@ impl<D: Disk, S: PeerSocket> Connections<D, S> {
     /// of TCP. False where none waits so.
     #[tactic(auto, using(crate::proofs::Reaching::welcomed, crate::proofs::Coming::coming))]
     fn dismiss_longest_waiting(&mut self, door: Option<usize>) -> bool
-        ensures moves { ReachesBy (IsDismissal door) self.old.stored self.new.stored }
-        ensures links { StayOrGo self.old.links.items self.new.links.items }
+        ensures gone { Dismisses door self.old.links.items self.new.links.items self.old.stored
+            self.new.stored }
+        ensures changes { self.new.changes ≡ self.old.changes }
     {
         match self.find_longest_waiting(door) {
             Some(key) => {
@@ -228,7 +229,7 @@ fn arrive_in<D: Disk>(
     stored: &mut StoredStation<D>,
     door: Option<usize>,
 ) -> Result<Option<usize>, NoMemory>
-    ensures moves { ReachesBy (IsWelcome door) stored.old stored.new }
+    ensures moves { ReachesBy (IsArrival door) stored.old stored.new }
     ensures unserved { IfOk result (λ found. IfSome found (λ key.
         is_served_at stored.new.station key ≡ false)) }
     ensures place { IfOk result (λ found. IfSome found (λ key. is_place_of door key ≡ true)) }
@@ -246,7 +247,7 @@ fn arrive_in<D: Disk>(
 /// A peer arrives in the station over TCP.
 #[tactic(auto, using(crate::proofs::Reaching::welcomed, crate::proofs::Pairing::arrived))]
 fn arrive_over_tcp<D: Disk>(stored: &mut StoredStation<D>) -> Result<Option<usize>, NoMemory>
-    ensures moves { ReachesBy (IsWelcome None) stored.old stored.new }
+    ensures moves { ReachesBy (IsArrival None) stored.old stored.new }
     ensures unserved { IfOk result (λ found. IfSome found (λ key.
         is_served_at stored.new.station key ≡ false)) }
     ensures place { IfOk result (λ found. IfSome found (λ key. is_place_of None key ≡ true)) }
@@ -267,7 +268,7 @@ fn arrive_at<D: Disk>(
     stored: &mut StoredStation<D>,
     place: usize,
 ) -> Result<Option<usize>, NoMemory>
-    ensures moves { ReachesBy (IsWelcome (Some place)) stored.old stored.new }
+    ensures moves { ReachesBy (IsArrival (Some place)) stored.old stored.new }
     ensures unserved { IfOk result (λ found. IfSome found (λ key.
         is_served_at stored.new.station key ≡ false)) }
     ensures place { IfOk result (λ found. IfSome found (λ key.

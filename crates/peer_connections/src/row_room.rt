@@ -2,7 +2,8 @@
 
 ghost use Rattle.std.specs.Prelude.{◌≡◌, OnErr, OnOk};
 ghost use Rattle.journal.specs.Memory.{HasRoomToHear, IsSameOrForgets};
-ghost use Rattle.journal.specs.Stored.{JournalGoesOn};
+ghost use Rattle.journal.specs.Stored.{JournalGoesOn, time_of};
+ghost use Rattle.peer_connections.specs.Fed.{ReadsNew};
 ghost use Rattle.peer_connections.specs.Sending.{HasSeen, KeepsChanges};
 
 use crate::change_watch::ChangeWatch;
@@ -26,6 +27,8 @@ pub(crate) fn make_room<D: Disk>(
     ensures seen { HasSeen changes.new.rows_seen stored.new.station.book }
     ensures fed { HasSeen changes.new.rows_fed stored.new.station.book }
     ensures noted { KeepsChanges changes.old changes.new stored.new.station.book }
+    ensures told { ReadsNew (time_of stored.new.journal) stored.old.station.book changes.old
+        changes.new }
 {
     changes.look(stored.book());
     if !stored.is_crowded() {

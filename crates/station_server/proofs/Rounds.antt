@@ -1,4 +1,5 @@
 -- What a round is made of.
+use Rattle.peer_connections.proofs.Coming.{moves_of_dismisses}
 use Rattle.peer_connections.proofs.Dues.{now_due, stay_same, stay_then, stay_with}
 use Rattle.peer_connections.proofs.Reaching.{goes_same, reaches_any, reaches_heard, reaches_kept}
 use Rattle.peer_connections.proofs.Reaching.{reaches_same}
@@ -14,6 +15,7 @@ pub ruleset moved = (
   reaches_welcome,
   reaches_way,
   reaches_heard,
+  moves_of_dismisses,
 )
 
 -- whoever is due stays so while peers are heard

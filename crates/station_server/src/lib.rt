@@ -11,8 +11,10 @@
 
 mod doors;
 mod fault;
+mod listeners;
 mod round_clock;
 mod server;
+mod sessions;
 mod sizes;
 
 pub use doors::Doors;

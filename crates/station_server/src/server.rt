@@ -14,38 +14,30 @@ ghost use Rattle.peer_connections.specs.Sending.{OwedAreSentTo};
 
 use crate::doors::Doors;
 use crate::fault::ServerFault;
+use crate::listeners::{
+    FEED_DOOR, FEED_LISTENER, LISTENER, PAGE_LISTENER, WAKER, accept_at, add_feed_door,
+    add_feed_port, listen_for_page, listen_for_peers,
+};
 use crate::round_clock::RoundClock;
+use crate::sessions::list_sessions;
 use crate::sizes::{EVENTS_A_ROUND, ROUNDS_BEFORE_A_SWEEP, SWEEP_SECONDS};
-use connection_calls::{ACCEPTS_A_TURN, Caller, accept};
+use connection_calls::{ACCEPTS_A_TURN, Caller};
 use feed_connections::Feeds;
 use journal::{Disk, DiskFault};
 use mio::event::Event;
-use mio::net::{TcpListener, TcpStream, UnixListener, UnixStream};
+use mio::net::{TcpListener, TcpStream, UnixStream};
 use mio::{Events, Interest, Poll, Token, Waker};
 use page_connections::Pages;
 use peer_connections::{Connections, PeerStream};
-use site_base::NoMemory;
-use site_json::PeerSession;
 use stamps::StampClock;
 use station::PEERS;
 use std::alloc::Global;
-use std::hash::RandomState;
 use std::io;
-use std::net::{Ipv4Addr, Net, SocketAddr, SocketAddrV4};
+use std::net::Net;
 use std::random::RandomSource;
 use std::sync::Wait;
 use std::time::{Clock, Duration, Instant};
 
-/// What a new connection is reported under.
-const LISTENER: Token = Token(usize::MAX);
-/// What the day's end is reported under.
-const WAKER: Token = Token(usize::MAX - 1);
-/// What a new connection of the page is reported under.
-const PAGE_LISTENER: Token = Token(usize::MAX - 2);
-/// What a new connection of the feed is reported under, over TCP.
-const FEED_LISTENER: Token = Token(usize::MAX - 3);
-/// .. and at the feed's door.
-const FEED_DOOR: Token = Token(usize::MAX - 4);
 /// The key of the feed's first connection. Those of the page are below.
 const FIRST_FEED: usize = PEERS + 1_024;
 
@@ -183,7 +175,9 @@ impl StationServer {
     {
         let served = self.serve_rounds(threads, rt, connections, idle);
         let ended = connections.end_all(rt, self.rounds.waited());
-        self.serve_feed(rt, connections);
+        if ended.is_ok() {
+            self.serve_feed(rt, connections);
+        }
         served?;
         ended?;
         Ok(())
@@ -307,9 +301,10 @@ impl StationServer {
     }
 
     /// The connections of the feed that are ready, or wait for rows that are new, have their turn.
-    /// They are sent rows that were read once they were stored, and no others. Where memory was
+    /// Each row is stored: they are sent those that were read then, and no others. Where memory was
     /// wanting for these there is no feed any more, which is said.
     fn serve_feed<R: Eprint, D: Disk>(&mut self, rt: &R, connections: &Connections<D, PeerStream>)
+        requires { is_all_stored connections.now.stored ≡ true }
         ensures { IfSome self.old.feeds (λ old. IfSome self.new.feeds
             (λ new. IfSome connections.now.changes.fed
             (λ fed. AreServed fed.rows old.places.items new.places.items))) }
@@ -666,8 +661,8 @@ impl StationServer {
         }
         self.swept_at = self.rounds.waited();
         self.accept_again(rt, connections);
-        connections.sweep(self.poll.registry(), rt, idle, self.rounds.waited())?;
-        Ok(())
+        connections.sweep(rt, idle, self.rounds.waited())?;
+        self.send_noted(rt, connections)
     }
 
     /// Accepts again, where that failed.
@@ -701,28 +696,6 @@ enum Accepting {
     IsOver,
     /// Others may wait, and are accepted once those that came were heard.
     Later,
-}
-
-/// The sessions of the peers whose nodes are known, in the order of their keys.
-fn list_sessions<D: Disk>(
-    alloc: Global,
-    connections: &Connections<D, PeerStream>,
-    now: Instant,
-) -> Result<Vec<PeerSession>, NoMemory> {
-    let mut sessions = Vec::new(alloc);
-    for key in 0..PEERS {
-        if let Some(session) = connections.session(key) {
-            let node = session.node;
-            let since = session.since;
-            let quiet_seconds = now.duration_since(session.heard_at).as_secs();
-            sessions.push(PeerSession {
-                node,
-                since,
-                quiet_seconds,
-            })?;
-        }
-    }
-    Ok(sessions)
 }
 
 /// A connection that is ready has its turn, and is due then. Where the station's book can't be
@@ -769,96 +742,6 @@ fn note_feed(feeds: &mut Option<Feeds>, event: &Event) {
         (Some(feeds), FEED_DOOR) => feeds.note_callers(),
         (Some(feeds), Token(key)) if event.is_write_closed() => feeds.leave(key),
         (Some(feeds), Token(key)) => feeds.make_due(key),
-    }
-}
-
-/// Peers of the feed come on this port, if there is one, too. It says which one it is.
-fn add_feed_port<N: Net>(
-    net: &N,
-    poll: &Poll,
-    port: Option<u16>,
-    feeds: &mut Feeds,
-) -> Result<Option<u16>, ServerFault> {
-    let Some(port) = port else {
-        return Ok(None);
-    };
-    match watch_port(net, poll, port, FEED_LISTENER) {
-        Ok((listener, port)) => {
-            feeds.listen(listener)?;
-            Ok(Some(port))
-        }
-        Err(_) => Err(ServerFault::NoConnection),
-    }
-}
-
-/// Peers of the feed come at this door, if there is one, too.
-fn add_feed_door(
-    poll: &Poll,
-    door: Option<UnixListener>,
-    feeds: &mut Feeds,
-) -> Result<(), ServerFault> {
-    let Some(mut door) = door else {
-        return Ok(());
-    };
-    match poll
-        .registry()
-        .register(&mut door, FEED_DOOR, Interest::READABLE)
-    {
-        Ok(()) => {
-            feeds.listen_at_door(door)?;
-            Ok(())
-        }
-        Err(_) => Err(ServerFault::NoConnection),
-    }
-}
-
-/// Accepts one connection that waits at this listener, if there is one.
-fn accept_at(listener: &Option<TcpListener>) -> Caller<TcpStream> {
-    match listener {
-        None => Caller::None,
-        Some(listener) => accept(listener),
-    }
-}
-
-/// A listener on 127.0.0.1 that is watched under this token, and its port.
-fn watch_port<N: Net>(
-    net: &N,
-    poll: &Poll,
-    port: u16,
-    token: Token,
-) -> io::Result<(TcpListener, u16)> {
-    let here = SocketAddr::V4(SocketAddrV4::new(Ipv4Addr::LOCALHOST, port));
-    let mut listener = TcpListener::bind(net, here)?;
-    let port = listener.local_addr()?.port();
-    poll.registry()
-        .register(&mut listener, token, Interest::READABLE)?;
-    Ok((listener, port))
-}
-
-/// The page's listener, its port, and the keys of its connections.
-fn listen_for_page<N: Net, R: RandomSource>(
-    net: &N,
-    rt: &R,
-    poll: &Poll,
-    port: u16,
-) -> io::Result<(TcpListener, u16, RandomState)> {
-    let keys = RandomState::new(rt)?;
-    let (listener, port) = watch_port(net, poll, port, PAGE_LISTENER)?;
-    Ok((listener, port, keys))
-}
-
-/// The listener for peers on this port, if there is one, and its port.
-fn listen_for_peers<N: Net>(
-    net: &N,
-    poll: &Poll,
-    port: Option<u16>,
-) -> io::Result<(Option<TcpListener>, Option<u16>)> {
-    match port {
-        None => Ok((None, None)),
-        Some(port) => {
-            let (listener, port) = watch_port(net, poll, port, LISTENER)?;
-            Ok((Some(listener), Some(port)))
-        }
     }
 }
 

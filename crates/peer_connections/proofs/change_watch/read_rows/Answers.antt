@@ -1,7 +1,7 @@
 use Rattle.std.proofs.Common.{arith, ◌≡◌, ◌∙◌, ◌<◌, Some, length, refl, sym}
 use Rattle.std.specs.Prelude.{slice_get}
 use Rattle.chapters.proofs.Rows.{there_is}
-use Rattle.peer_connections.proofs.Feeding.{fed_all, fed_begun, fed_more}
+use Rattle.peer_connections.proofs.Feeding.{fed_begun, fed_more}
 use Rattle.peer_connections.proofs.change_watch.read_rows.Goals as goal
 
 pub loop-place-init : goal.loop-place-init

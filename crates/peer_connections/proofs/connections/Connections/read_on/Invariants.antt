@@ -7,5 +7,6 @@ invariant-loop-step g l = record {
   stored : l.self.stored ≡ l.fn.self.stored;
   left : StayKnown g.S.Read.remaining l.fn.self.links.items l.self.links.items;
   got : StayKnown g.S.Write.contents l.fn.self.links.items l.self.links.items;
+  changes : l.self.changes ≡ l.fn.self.changes;
   due : l.self.due ≡ l.fn.self.due;
 }

@@ -49,8 +49,8 @@ returns-in-Some g c =
         follows = reaches_then _ _ _ _ c.follow_session.ensures.moves
             (reaches_same _ _ _ c.report_again.ensures.stored);
         no_more = no_more_then g.S.Write.contents c.args.key c.send_link.new.self.links.items
-            c.follow_session.new.self.links.items c.report_again.new.self.links.items was c.follow_session.ensures.got
-            c.report_again.ensures.got;
+            c.follow_session.new.self.links.items c.report_again.new.self.links.items
+            c.follow_session.ensures.got c.report_again.ensures.got;
         there = λ is. was_there c.args.key _ _ _ _ c.args.self.now.stored _
             c.args.self.now.paired c.send_link.new.self.paired c.send_link.ensures.stream
             (still_there c.args.key c.send_link.new.self.stored.station
@@ -72,6 +72,8 @@ returns-in-Some g c =
       sent = c.report_again.ensures.sent (c.follow_session.ensures.sent c.send_link.ensures.sent);
       journal = ap (λ (s : StoredState). s.journal) c.report_again.ensures.stored
           ∙ c.follow_session.ensures.journal ∙ c.send_link.ensures.journal;
+      changes = c.report_again.ensures.changes ∙ c.follow_session.ensures.changes
+          ∙ c.send_link.ensures.changes;
       due = c.report_again.ensures.due ∙ c.follow_session.ensures.due ∙ c.send_link.ensures.due;
     }
 
