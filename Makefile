@@ -53,5 +53,6 @@ bench: build
 	@scripts/bench/station $(PROGRAM)
 	@scripts/bench/station --history $(PROGRAM)
 	@scripts/bench/station --page $(PROGRAM)
+	@scripts/bench/feeds $(PROGRAM)
 	@scripts/bench/flood $(PROGRAM)
 	@scripts/bench/instructions $(PROGRAM)

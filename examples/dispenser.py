@@ -34,7 +34,7 @@ LITRE = 1_000
 
 class Dispenser:
     def __init__(self, address, point, reading):
-        self.point, self.reading = point, reading
+        self.point, self.reading, self.state = point, reading, None
         self.talk = Talk(address, [DISPENSER, point])
         self.come_online()
 

@@ -1,15 +1,18 @@
 #!/usr/bin/env python3
-"""A till: examples/till.py PORT TILL POINT
-        examples/till.py --door PATH TILL POINT
+"""A till: examples/till.py PORT TILL POINT [FEED]
+        examples/till.py --door PATH TILL POINT [FEED]
 
 Signs on at a site, at this port of 127.0.0.1 or at this door, opens the fuelling point if it is
-closed, releases it, looks at it until its fuelling is over, and locks, clears and reads the sale.
-If the station is started again meanwhile, it connects and signs on again, and goes on. It can be
-run as often as there is something to sell. docs/PROFILE.md has every identifier."""
+closed, releases it, waits until its fuelling is over, and locks, clears and reads the sale. With
+FEED, the port of the station's feed or the socket of its door, it hears of the sale there; without
+it, it looks at the point, and tries sale numbers. If the station is started again meanwhile, it
+connects and signs on again, and goes on. It can be run as often as there is something to sell.
+docs/PROFILE.md has every identifier."""
+import json
 import sys
 import time
 
-from talk import RESULT, Gone, Talk, explain, take_address
+from talk import RESULT, Gone, Talk, connect, explain, take_address
 
 READ, WRITE, TILL = 0, 2, 2
 SITE = bytes([1])
@@ -68,10 +71,29 @@ def release(till, pump):
         sys.exit("the point isn't there, or its dispenser isn't reached")
 
 
+def hear_of_sale(feed, point):
+    """The number of the next sale of the point that the feed tells; None if it ends before."""
+    for line in feed:
+        row = json.loads(line)
+        if row.get("point") == point and row["reply"].startswith("Sold") and "sale" in row:
+            return row["sale"]["number"]
+
+
+def wait_for_sale(till, pump):
+    """Looks at the point until its fuelling is over."""
+    while till.read(pump).get(STATE) not in (INOPERATIVE, CLOSED, IDLE):
+        time.sleep(0.05)
+
+
+def address_sale(pump, number):
+    """The address of a transaction of the open shift."""
+    return pump + bytes([OPEN_SHIFT]) + bytes.fromhex(f"{number:04d}")
+
+
 def find_sale(till, pump):
     """The address of the point's first payable transaction of the open shift."""
     for number in range(1, 10_000):
-        sale = pump + bytes([OPEN_SHIFT]) + bytes.fromhex(f"{number:04d}")
+        sale = address_sale(pump, number)
         view = till.read(sale)
         if not view:
             sys.exit("the fuelling has ended without a sale")
@@ -87,13 +109,18 @@ def clear(till, sale):
             till.command(sale, CLEAR)
 
 
-def main(address, number, point):
-    till, pump = Till(address, number), bytes([0x20 + point])
+def main(address, number, point, feed=None):
+    till, pump, told = Till(address, number), bytes([0x20 + point]), None
+    if feed:
+        peer = connect(int(feed) if feed.isdecimal() else feed)
+        peer.sendall(b"from end\n")
+        told = peer.makefile("rb")
     release(till, pump)
     print(f"point {point} is released", flush=True)
-    while till.read(pump).get(STATE) not in (INOPERATIVE, CLOSED, IDLE):
-        time.sleep(0.05)
-    sale = find_sale(till, pump)
+    sold = told and hear_of_sale(told, point)
+    if not sold:
+        wait_for_sale(till, pump)
+    sale = address_sale(pump, sold) if sold else find_sale(till, pump)
     clear(till, sale)
     view = till.read(sale)
     print(f"cleared {view[VOLUME]} ml for {view[CENTS]} cents")
@@ -101,6 +128,7 @@ def main(address, number, point):
 
 if __name__ == "__main__":
     found = take_address(sys.argv[1:])
-    if not found or len(found[1]) != 2 or not all(word.isdecimal() for word in found[1]):
+    numbers, feed = (found[1][:2], found[1][2:]) if found else ([], [])
+    if len(numbers) != 2 or len(feed) > 1 or not all(word.isdecimal() for word in numbers):
         sys.exit(__doc__)
-    main(found[0], *map(int, found[1]))
+    main(found[0], *map(int, numbers), *feed)

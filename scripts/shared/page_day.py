@@ -9,43 +9,17 @@ import tempfile
 
 from shared import serving
 from shared.checks import Failed
-from shared.running import run
+from shared.peers_day import PeersDay
 from shared.serving import start_day
-from shared.station import (
-    KNOWN_SITE, NOTICE, decode, is_accepted, receive, receive_message, sign_on,
-)  # fmt: skip
+from shared.station import KNOWN_SITE, receive, sign_on
 
 
-class PageDay:
-    """A station with a page, and its tills and dispensers, each with a connection that stays."""
+class PageDay(PeersDay):
+    """A station with a page, and its tills and dispensers."""
 
     def __init__(self, program, day, port):
-        self.program, self.day, self.port, self.peers = program, day, port, {}
-        self.url = f"http://127.0.0.1:{port}/"
-
-    def tell(self, *messages):
-        """Tills and dispensers send messages; each is answered before the next one is sent.
-        Returns the last reply."""
-        for message in messages:
-            node = tuple(message[2:4])
-            if node not in self.peers:
-                self.peers[node] = self.day.connect()
-            self.peers[node].sendall(message)
-            while (reply := decode(receive_message(self.peers[node]))[0]).kind == NOTICE:
-                pass
-        return reply
-
-    def work(self, day):
-        """Tills and dispensers say what a day has, and nothing of it is refused."""
-        spelled = run(self.program, "spell", given=day.text().encode())
-        for words, line in zip(day.lines, spelled.out.decode().splitlines(), strict=True):
-            if not is_accepted(self.tell(bytes.fromhex(line))):
-                raise Failed(f"'{words}' is refused")
-
-    def leave(self):
-        """All tills and dispensers hang up."""
-        for peer in self.peers.values():
-            peer.close()
+        super().__init__(program, day)
+        self.port, self.url = port, f"http://127.0.0.1:{port}/"
 
     def get(self, path, method="GET"):
         """The status, the fields and the body of an answer."""

@@ -11,11 +11,13 @@ import sys
 import time
 
 from shared.checks import expect
+from shared.feed_day import start_feed
 from shared.histories import write_chapters, write_history, write_rows
 from shared.running import EXAMPLES, run
+from shared.serving import wait_until
 from shared.station import KNOWN_SITE
 from tests.built import PROGRAM
-from tests.suite import make_folder, test
+from tests.suite import make_folder, start_chance, test
 
 HERE = make_folder()
 BACK_OFFICE = EXAMPLES / "backoffice.py"
@@ -76,15 +78,61 @@ def each_sale_once(seed):
             done = len(kept)
     expect("it ends well", start_office(folder, store).wait(), 0)
     expect("so it does again", start_office(folder, store).wait(), 0)
-    wanted = {}
-    listed = run(PROGRAM, "sales", folder, "--json").out.decode().splitlines()
-    for sale in map(json.loads, listed):
-        name = (sale["shift"], sale["point"], sale["number"])
-        wanted[name] = (sale["millilitres"], sale["cents"], sale["status"])
+    wanted = list_sales(folder)
     expect("how many", len(wanted), SHIFTS * SOLD)
     expect("each sale", read_sales(store), wanted)
     expect("the first", wanted[1, 1, 1], (1_000, 150, "cleared"))
     expect("the last", wanted[SHIFTS, 1, SOLD], (1_000, 150, "payable"))
+
+
+@test
+def each_sale_once_by_the_feed(seed):
+    """The same of one that reads the feed, while a till sells, and the station is killed too."""
+    chance = start_chance(seed, "backoffice feed")
+    folder, store = HERE / f"fed-{seed}", HERE / f"fed-{seed}.db"
+    offices, sold = [], 0
+    for _ in range(KILLS):
+        with start_feed(PROGRAM, "--history", folder) as day:
+            office = start_office(day.port, store)
+            sold = sell_on(day, sold, chance.randint(1, 8))
+            time.sleep(chance.random() * 0.12)
+            if chance.random() < 0.5:
+                os.killpg(office.pid, signal.SIGKILL)
+                office.wait()
+                office = start_office(day.port, store)
+                time.sleep(chance.random() * 0.3)
+            day.day.process.kill()
+            day.day.process.wait()
+            os.killpg(office.pid, signal.SIGKILL)
+            office.wait()
+    with start_feed(PROGRAM, "--history", folder) as day:
+        office = start_office(day.port, store)
+        wait_until("all sales", lambda: len(read_sales_if(store)) == sold)
+        wanted = list_sales(folder)
+        wait_until("each sale", lambda: read_sales_if(store) == wanted)
+        expect("how many", len(wanted), sold)
+        os.killpg(office.pid, signal.SIGKILL)
+        office.wait()
+    expect("its folder has no more", start_office(folder, store).wait(), 0)
+    expect("each sale", read_sales(store), wanted)
+
+
+def sell_on(day, sold, count):
+    """Point 1 makes so many sales more, each of which is cleared."""
+    day.say("t1 SignOn", *(["t1 Open 1"] if sold == 0 else []))
+    for number in range(sold + 1, sold + count + 1):
+        day.say("t1 Release 1", f"d1 Lift 1 1@{1_000 * number - 1_000}")
+        day.say(f"d1 HangUp 1 1@{1_000 * number}", f"t1 Lock 1/{number}", f"t1 Clear 1/{number}")
+    return sold + count
+
+
+def list_sales(folder):
+    """The sales of a history, as `forecourt sales` tells them."""
+    wanted = {}
+    for sale in map(json.loads, run(PROGRAM, "sales", folder, "--json").out.splitlines()):
+        name = (sale["shift"], sale["point"], sale["number"])
+        wanted[name] = (sale["millilitres"], sale["cents"], sale["status"])
+    return wanted
 
 
 def read_sales_if(store):

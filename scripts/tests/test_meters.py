@@ -1,4 +1,4 @@
-"""`meters`: what is counted at each nozzle, and the gaps.
+"""`meters`: what is counted at each nozzle, and the gaps, which a report for people tells too.
 
 A day that is worked by hand, as a text and as a history of three shifts; and random days against a
 count in Python of what their replies say. METERS_DAYS in the environment says how many."""
@@ -99,6 +99,37 @@ def count_folder(folder, *words):
     return ended.out.decode()
 
 
+def report_gaps(place, *words, given=None):
+    """What `report --human` says of gaps, behind its table of products."""
+    ended = run(PROGRAM, "report", place, "--human", *words, given=given)
+    expect("a report for people", (ended.status, ended.err), (0, ""))
+    head, total, gaps = ended.out.decode().partition("\ntotal")
+    expect("its table", (head.splitlines()[0].endswith(" rows"), total), (True, "\ntotal"))
+    return gaps.split("\n", 1)[1]
+
+
+def tell_gaps(lines):
+    """The same of the lines of a table of gaps."""
+    told = []
+    for line in read_rows("\n".join(lines)):
+        if line["gap"] == "refused" and line["settled by row"] != "open":
+            continue
+        first, second, more = (
+            f"{'-' if int(line[key]) < 0 else ''}{abs(int(line[key])) // 1000}"
+            f".{abs(int(line[key])) % 1000:03}"
+            for key in ("expected", "reported", "difference")
+        )
+        product = {"1": "1 diesel", "2": "2 petrol"}[line["nozzle"]]
+        where = f"point {line['point']} nozzle {line['nozzle']}, {product}"
+        if line["gap"] == "replaced":
+            told.append(f"meter replaced: {where}: the old one read {first}, the new one began at"
+                        f" {second}, difference {more} litres\n")  # fmt: skip
+        else:
+            told.append(f"open gap: {where}: {first} expected, {second} reported, difference"
+                        f" {more} litres\n")  # fmt: skip
+    return "\n" + "".join(told) if told else ""
+
+
 def read_rows(text):
     """The lines of a table of comma-separated values, each by its titles."""
     return list(csv.DictReader(io.StringIO(text)))
@@ -172,6 +203,21 @@ def worked_day_for_people():
         " settled by row 13",
         "row 22 point 2 nozzle 1: refused 19 up to row 23, 3.000 to 1003.001, 1000.001, open",
     ])  # fmt: skip
+
+
+@test
+def worked_day_reported():
+    """A report for people tells each replaced meter and each open gap behind its table."""
+    given = spell(DAY)
+    expect("gaps", report_gaps(SITE, given=given),
+        "\nmeter replaced: point 1 nozzle 1, 1 diesel: the old one read 15.000, the new one began"
+        " at 45.500, difference 30.500 litres\n"
+        "meter replaced: point 1 nozzle 2, 2 petrol: the old one read 1.000, the new one began at"
+        " 0.400, difference -0.600 litres\n"
+        "open gap: point 2 nozzle 1, 1 diesel: 3.000 expected, 1003.001 reported, difference"
+        " 1000.001 litres\n")  # fmt: skip
+    expect("as in the table", report_gaps(SITE, given=given), tell_gaps(GAPS))
+    expect("none", report_gaps(SITE, given=spell(DAY[:10])), "")
 
 
 @test
@@ -252,6 +298,19 @@ def worked_history():
     expect("gaps of shift 2", gaps, [GAP_TITLES])
     gaps = count_folder(folder, "--gaps", "--csv", "--shift", "3").splitlines()
     expect("gaps of shift 3", gaps, [GAP_TITLES, ended])
+    for shifts in ("1", "2", "3", "1..2", "2..3", "1..3"):
+        lines = count_folder(folder, "--gaps", "--csv", "--shift", shifts).splitlines()
+        expect(f"report of {shifts}", report_gaps(folder, "--shift", shifts), tell_gaps(lines))
+    expect("report", report_gaps(folder), tell_gaps([GAP_TITLES, replaced, petrol, settled, ended]))
+    folder = history_of("open", DAY[:12], DAY[12:15], DAY[15:])
+    for shifts, found in (("1", GAPS[3:4]), ("2", GAPS[1:3]), ("3", GAPS[4:])):
+        lines = [GAP_TITLES, *found]
+        if shifts == "1":
+            lines[1] = lines[1].removesuffix("13") + "open"
+        told = report_gaps(folder, "--shift", shifts)
+        expect(f"an open gap of {shifts}", told, tell_gaps(lines))
+    expect("and of all", report_gaps(folder), tell_gaps(GAPS))
+    folder = HERE / "worked"
     ended = run(PROGRAM, "meters", folder, "--shift", "4")
     expect("a shift to come", (ended.status, ended.out), (1, b""))
     expect("why", ended.err, "shift 4 isn't there: shift 3 is open\n")
@@ -435,6 +494,8 @@ def random_days(seed):
         gaps = [*counted.replaced, *counted.settled, *(run.line("open") for run in counted.open)]
         shown = count(given, "--gaps", "--csv").splitlines()
         expect(f"day {number}: gaps", shown, [GAP_TITLES, *gaps])
+        told = report_gaps(SITE, given=given)
+        expect(f"day {number}: the report", told, tell_gaps([GAP_TITLES, *gaps]))
         for x in counted.nozzles.values():
             expect(f"day {number}: readings", x.reading - x.opening, x.metered + x.jumps)
             expect(f"day {number}: volumes", x.metered, x.sold + x.drawn + x.running)

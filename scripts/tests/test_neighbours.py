@@ -1359,3 +1359,20 @@ def examples_go_on_after_a_crash():
                       "cleared 40000 ml for 6000 cents"]  # fmt: skip
             expect("what they say", last_lines(peers), wanted)
             end(day)
+
+
+@test
+def a_dispenser_that_isnt_heard():
+    """The dispenser of the examples goes on where its first connection ends before any reply."""
+    with contextlib.ExitStack() as stack:
+        with socket.create_server(("127.0.0.1", 0)) as early:
+            port = early.getsockname()[1]
+            pump = [EXAMPLES / "dispenser.py", port, 1, 10_000]
+            peers = start_examples(stack, pump)
+            early.accept()[0].close()
+        with start_station(site=FIVE_POINTS, port=port) as day:
+            peers += start_examples(stack, [EXAMPLES / "till.py", port, 1, 1])
+            wanted = ["10000 ml of nozzle 1; its meter stands at 10000",
+                      "cleared 10000 ml for 1500 cents"]  # fmt: skip
+            expect("what they say", last_lines(peers), wanted)
+            end(day)

@@ -57,6 +57,7 @@ MOST_IN_BOOK = 1_024  # rows
 LEFT_AFTER = (10, 13)
 SEAL_SHOWN = 12  # digits of the last seal that the page says
 SEALED_AFTER = 1.1  # seconds since the last seal, after which a row is sealed at once
+MILLISECOND = datetime.timedelta(milliseconds=1)
 READS = 2_000  # of a till, beside which the page is asked
 SLOW = 0.02  # seconds: half of a till's replies come sooner
 STATES = (
@@ -71,6 +72,11 @@ def wait_for_end(peer):
     with contextlib.suppress(ConnectionError):
         while peer.recv(65_536):
             pass
+
+
+def without_time(body):
+    """A site as JSON without the time when it was made."""
+    return re.sub(rb'"at":"[^"]*"', b'', body)
 
 
 def ask_on(peer):
@@ -91,7 +97,8 @@ def each_path_and_method():
         status, fields, body = page.get("/site.json")
         expect("the site", (status, fields["content-type"]), (200, "application/json"))
         expect("not kept", fields["cache-control"], "no-store")
-        expect("with a query", page.get("/site.json?x=1")[2], body)
+        again = page.get("/site.json?x=1")[2]
+        expect("with a query", without_time(again), without_time(body))
         for path in ("/nothing", "/site.json/", "/../site.json", "//"):
             expect(path, page.get(path)[0], 404)
         for method in ("GET", "HEAD"):
@@ -124,9 +131,10 @@ def asks_nothing_of_others():
 
 
 # The members of site.json, and of what is in it.
-SITE_MEMBERS = ["connections", "opened", "points", "products", "rows", "seal", "sessions", "shift",
-                "tills", "transactions"]  # fmt: skip
-POINT = ["dispenser connected", "fuelling", "holder", "nozzle", "number", "product", "state", "state name"]
+SITE_MEMBERS = ["at", "connections", "opened", "points", "products", "rows", "seal", "sessions",
+                "shift", "tills", "transactions", "unpaid cents"]  # fmt: skip
+POINT = ["dispenser connected", "fuelling", "holder", "nozzle", "nozzles", "number", "product",
+         "state", "state name"]  # fmt: skip
 FUELLING = ["cents", "ending", "millilitres", "mills", "prepaid", "preset cents",
             "preset millilitres", "test"]  # fmt: skip
 PRODUCT = ["adjusted", "cleared", "locked", "metered", "mills", "name", "number", "payable",
@@ -150,6 +158,8 @@ def members_of_the_site():
                               ("tills", ["cents", "clears", "number", "signed on"]),
                               ("transactions", TRANSACTION)):  # fmt: skip
             expect(name, [one for one in site[name] if list(one) != members], [])
+        cents = sum(sale["cents"] for sale in site["transactions"])
+        expect("what is unpaid", (site["unpaid cents"], cents > 0), (cents, True))
         expect("points", [point["number"] for point in site["points"]], list(range(1, 65)))
         expect("tills", [till["number"] for till in site["tills"]], list(range(1, 33)))
         expect("connections", site["connections"], 96)
@@ -740,6 +750,28 @@ def sales_whose_rows_are_forgotten():
     with start_page(*words, site=site, till=None) as page:
         again = page.site()
         expect("at a start", (again["transactions"], again["rows"]), ([first], rows))
+
+
+@test
+def nozzles_beside_the_meters():
+    """Each point has its nozzles, whose readings are those with which `meters` ends; `at` is the
+    time when the answer was made."""
+    folder = HERE / "nozzles"
+    with start_busy(forecourts.make_crowded_day(), "--history", str(folder)) as (page, _):
+        begun = datetime.datetime.now(datetime.UTC)
+        site = page.site()
+        ended = datetime.datetime.now(datetime.UTC)
+        lines = run(PROGRAM, "meters", str(folder), "--json").out.decode().splitlines()
+        wanted = [(line["point"], line["nozzle"], line["product"], line["closing"])
+                  for line in map(json.loads, lines)]  # fmt: skip
+        told = [(point["number"], nozzle["number"], nozzle["product"], nozzle["reading"])
+                for point in site["points"] for nozzle in point["nozzles"]]  # fmt: skip
+        expect("readings", told, wanted)
+        members = {tuple(one) for point in site["points"] for one in point["nozzles"]}
+        expect("members", members, {("number", "product", "reading")})
+        made = datetime.datetime.fromisoformat(site["at"])
+        expect("at", begun - MILLISECOND <= made <= ended, True)
+        expect("its form", make_stamp(made)[:19], site["at"][:19])
 
 
 @test

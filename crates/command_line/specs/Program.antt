@@ -78,9 +78,10 @@ day_shapes =
     ∷ required_rule (codes "sessions") ∷ [])
     ∷ command (codes "station")
     (new_rule (codes "FILE") ∷ option_rule (codes "port") ∷ option_rule (codes "doors")
-    ∷ option_rule (codes "history") ∷ option_rule (codes "page") ∷ option_rule (codes "idle")
-    ∷ option_rule (codes "rate") ∷ option_rule (codes "house") ∷ option_rule (codes "release-age")
-    ∷ option_rule (codes "lost") ∷ flag_rule (codes "detached") ∷ flag_rule (codes "json") ∷ [])
+    ∷ option_rule (codes "history") ∷ option_rule (codes "page") ∷ option_rule (codes "feed")
+    ∷ option_rule (codes "idle") ∷ option_rule (codes "rate") ∷ option_rule (codes "house")
+    ∷ option_rule (codes "release-age") ∷ option_rule (codes "lost")
+    ∷ flag_rule (codes "detached") ∷ flag_rule (codes "json") ∷ [])
     ∷ command (codes "demo")
     (site_file_rule ∷ script_rule ∷ flag_rule (codes "loopback") ∷ [])
     ∷ []

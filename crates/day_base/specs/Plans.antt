@@ -4,7 +4,7 @@ use Rattle.std.specs.Str.Parse.{IsNumeral, digits_value}
 use Rattle.counter_desk.specs.declared.crews.TheConstants.{WORKERS}
 use Rattle.till_session.specs.declared.server.TheConstants.{SESSIONS}
 use Rattle.day_base.specs.declared.options.OptionFault.{OptionFault}
-use Rattle.day_base.specs.declared.options.OptionFault.TheVariants.{Idle, Page, Port, Rate}
+use Rattle.day_base.specs.declared.options.OptionFault.TheVariants.{Feed, Idle, Page, Port, Rate}
 use Rattle.day_base.specs.declared.options.OptionFault.TheVariants.{Sessions, Workers}
 use Rattle.day_base.specs.declared.plan.ServerPlan.{ServerPlan}
 use Rattle.day_base.specs.declared.plan.StationPlan.{StationPlan}
@@ -52,7 +52,7 @@ TellsIdle None None = ⊤
 TellsIdle (Some word) (Some n) = TellsNumber 1 IDLE_SECONDS word n
 TellsIdle word n = ⊥
 
--- a port, for peers or of the page; without a word there is none
+-- a port, for peers, of the page or of the feed; without a word there is none
 abbrev pub TellsPlace : Option (List ℕ) → Option ℕ → Type 0
 TellsPlace None None = ⊤
 TellsPlace (Some word) (Some n) = TellsPort word n
@@ -64,22 +64,26 @@ TellsRate None n = n ≡ USUAL_RATE
 TellsRate (Some word) n = TellsNumber 0 GREATEST_RATE word n
 
 -- each of the words tells its part of the plan
-abbrev pub TellsStationPlan : Option (List ℕ) → Option (List ℕ) → Option (List ℕ) → Option (List ℕ)
-    → StationPlan → Type 0
-TellsStationPlan port page idle rate plan =
-    TellsPlace port plan.port × TellsPlace page plan.page × TellsIdle idle plan.idle
-    × TellsRate rate plan.rate
+abbrev pub TellsStationPlan : Option (List ℕ) → Option (List ℕ) → Option (List ℕ)
+    → Option (List ℕ) → Option (List ℕ) → StationPlan → Type 0
+TellsStationPlan port page feed idle rate plan =
+    TellsPlace port plan.port × TellsPlace page plan.page × TellsPlace feed plan.feed
+    × TellsIdle idle plan.idle × TellsRate rate plan.rate
 
 -- the first word that tells no number in its range
 abbrev pub IsFirstStationFault : Option (List ℕ) → Option (List ℕ) → Option (List ℕ)
-    → Option (List ℕ) → OptionFault → Type 0
-IsFirstStationFault port page idle rate Port = (n : Option ℕ) → ¬ TellsPlace port n
-IsFirstStationFault port page idle rate Page =
+    → Option (List ℕ) → Option (List ℕ) → OptionFault → Type 0
+IsFirstStationFault port page feed idle rate Port = (n : Option ℕ) → ¬ TellsPlace port n
+IsFirstStationFault port page feed idle rate Page =
     ((n : Option ℕ) × TellsPlace port n) × ((n : Option ℕ) → ¬ TellsPlace page n)
-IsFirstStationFault port page idle rate Idle =
+IsFirstStationFault port page feed idle rate Feed =
     ((n : Option ℕ) × TellsPlace port n) × ((n : Option ℕ) × TellsPlace page n)
-    × ((n : Option ℕ) → ¬ TellsIdle idle n)
-IsFirstStationFault port page idle rate Rate =
+    × ((n : Option ℕ) → ¬ TellsPlace feed n)
+IsFirstStationFault port page feed idle rate Idle =
     ((n : Option ℕ) × TellsPlace port n) × ((n : Option ℕ) × TellsPlace page n)
-    × ((n : Option ℕ) × TellsIdle idle n) × ((n : ℕ) → ¬ TellsRate rate n)
-IsFirstStationFault port page idle rate fault = ⊥
+    × ((n : Option ℕ) × TellsPlace feed n) × ((n : Option ℕ) → ¬ TellsIdle idle n)
+IsFirstStationFault port page feed idle rate Rate =
+    ((n : Option ℕ) × TellsPlace port n) × ((n : Option ℕ) × TellsPlace page n)
+    × ((n : Option ℕ) × TellsPlace feed n) × ((n : Option ℕ) × TellsIdle idle n)
+    × ((n : ℕ) → ¬ TellsRate rate n)
+IsFirstStationFault port page feed idle rate fault = ⊥

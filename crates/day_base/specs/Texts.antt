@@ -1,5 +1,5 @@
 -- What a day writes: where it listens, and the report of its book.
-use Rattle.std.specs.Prelude.{ℕ, List, ◌++◌, Option, Some, None, codes, decimal, length}
+use Rattle.std.specs.Prelude.{ℕ, List, [], ◌++◌, Option, Some, None, codes, decimal, length}
 use Rattle.site_base.specs.declared.totals.Totals.{Totals}
 use Rattle.day_report.specs.Json.{json_text}
 use Rattle.day_report.specs.Text.{report_text}
@@ -17,15 +17,24 @@ listening_line port = codes "listening 127.0.0.1:" ++ decimal port ++ codes "\n"
 abbrev pub page_line : ℕ → List ℕ
 page_line page = codes "page http://127.0.0.1:" ++ decimal page ++ codes "/\n"
 
+-- where a station's feed is
+abbrev pub feed_line : ℕ → List ℕ
+feed_line feed = codes "feed 127.0.0.1:" ++ decimal feed ++ codes "\n"
+
 -- where a station listens: on a port, or at its doors alone
 abbrev pub station_line : Option ℕ → List ℕ
 station_line None = codes "listening at doors\n"
 station_line (Some port) = listening_line port
 
--- where a station listens, and where its page is, if it has one
-abbrev pub places_text : Option ℕ → Option ℕ → List ℕ
-places_text port None = station_line port
-places_text port (Some page) = station_line port ++ page_line page
+-- the line of a port, if there is one
+abbrev pub line_if : (ℕ → List ℕ) → Option ℕ → List ℕ
+line_if line None = []
+line_if line (Some port) = line port
+
+-- where a station listens, and where its page and its feed are, if it has them on a port
+abbrev pub places_text : Option ℕ → Option ℕ → Option ℕ → List ℕ
+places_text port page feed =
+    (station_line port ++ line_if page_line page) ++ line_if feed_line feed
 
 -- the figures of a station's book: its rows are those that a history keeps
 abbrev pub kept_totals : Book → Totals

@@ -27,6 +27,9 @@ pub enum OptionFault {
     /// The page's port.
     #[error("--page is a decimal number from 0 to {max}", max = u16::MAX)]
     Page,
+    /// The feed's port.
+    #[error("--feed is a decimal number from 0 to {max}", max = u16::MAX)]
+    Feed,
     /// The seconds of a silent session.
     #[error("--idle is a decimal number from 1 to {max}", max = IDLE_SECONDS)]
     Idle,
@@ -66,65 +69,51 @@ impl ServerPlan {
 
 impl StationPlan {
     /// The plan that these words tell, or the first of them that isn't a decimal number in its
-    /// range: the port from 0 (a free one) to 65535, that of the page too, where there is a word of
-    /// them, the seconds, where there is a word of them, from 1 to 86,400, the rate from 0 to
+    /// range: the port from 0 (a free one) to 65535, those of the page and of the feed too, where
+    /// there is a word of them, the seconds, where there is a word of them, from 1 to 86,400, the rate from 0 to
     /// 1,000,000, 1,000 where there is no word of it. A sign is no digit.
     pub fn read(
         port: Option<&str>,
         page: Option<&str>,
+        feed: Option<&str>,
         idle: Option<&str>,
         rate: Option<&str>,
     ) -> Result<StationPlan, OptionFault>
         ensures plan { IfOk result (λ plan. TellsStationPlan
             (option_map (λ w. w.now) port.entry) (option_map (λ w. w.now) page.entry)
-            (option_map (λ w. w.now) idle.entry)
+            (option_map (λ w. w.now) feed.entry) (option_map (λ w. w.now) idle.entry)
             (option_map (λ w. w.now) rate.entry) plan) }
         ensures first { IfErr result (λ fault. IsFirstStationFault
             (option_map (λ w. w.now) port.entry) (option_map (λ w. w.now) page.entry)
-            (option_map (λ w. w.now) idle.entry)
+            (option_map (λ w. w.now) feed.entry) (option_map (λ w. w.now) idle.entry)
             (option_map (λ w. w.now) rate.entry) fault) }
     {
-        let port = read_port(port)?;
-        let page = read_page(page)?;
+        let port = read_place(port, OptionFault::Port)?;
+        let page = read_place(page, OptionFault::Page)?;
+        let feed = read_place(feed, OptionFault::Feed)?;
         let idle = read_idle(idle)?;
         let rate = read_rate(rate)?;
         Ok(StationPlan {
             port,
             page,
+            feed,
             idle,
             rate,
         })
     }
 }
 
-/// The port for peers that a word tells, where there is one.
-fn read_port(port: Option<&str>) -> Result<Option<u16>, OptionFault>
-    ensures told { IfOk result (λ n. TellsPlace (option_map (λ w. w.now) port.entry) n) }
-    ensures other { IfErr result (λ fault.
-        (fault ≡ OptionFault.Port)
-        × ((n : Option ℕ) → ¬ TellsPlace (option_map (λ w. w.now) port.entry) n)) }
+/// The port that a word tells, where there is one; or this fault.
+fn read_place(word: Option<&str>, fault: OptionFault) -> Result<Option<u16>, OptionFault>
+    ensures told { IfOk result (λ n. TellsPlace (option_map (λ w. w.now) word.entry) n) }
+    ensures other { IfErr result (λ e.
+        (e ≡ fault) × ((n : Option ℕ) → ¬ TellsPlace (option_map (λ w. w.now) word.entry) n)) }
 {
-    match port {
+    match word {
         None => Ok(None),
         Some(word) => match number_in(word, 0, u64::from(u16::MAX)) {
             Some(port) => Ok(Some(port as u16)),
-            None => Err(OptionFault::Port),
-        },
-    }
-}
-
-/// The page's port that a word tells, where there is one.
-fn read_page(page: Option<&str>) -> Result<Option<u16>, OptionFault>
-    ensures told { IfOk result (λ n. TellsPlace (option_map (λ w. w.now) page.entry) n) }
-    ensures other { IfErr result (λ fault.
-        (fault ≡ OptionFault.Page)
-        × ((n : Option ℕ) → ¬ TellsPlace (option_map (λ w. w.now) page.entry) n)) }
-{
-    match page {
-        None => Ok(None),
-        Some(word) => match number_in(word, 0, u64::from(u16::MAX)) {
-            Some(port) => Ok(Some(port as u16)),
-            None => Err(OptionFault::Page),
+            None => Err(fault),
         },
     }
 }

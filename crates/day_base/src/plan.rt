@@ -39,6 +39,8 @@ pub struct StationPlan {
     pub port: Option<u16>,
     /// The page's port, 0 for a free one; without a number there is no page.
     pub page: Option<u16>,
+    /// The feed's port, 0 for a free one; without a number there is none.
+    pub feed: Option<u16>,
     /// A session of which nothing comes for so many seconds ends; without a number none does.
     pub idle: Option<u64>,
     /// So many requests a second are heard of a session at most; 0: as many as come.

@@ -6,7 +6,8 @@ ghost use Rattle.std.specs.Io.KnownBytes.{Appends};
 ghost use Rattle.devices.specs.Counted.{device_of, failures_of};
 ghost use Rattle.devices.specs.Devices.{AppendsFront, one_more};
 ghost use Rattle.day_report.specs.Text.{report_text};
-ghost use Rattle.day_base.specs.Texts.{listening_line, page_line, places_text, station_line};
+ghost use Rattle.day_base.specs.Texts.{feed_line, line_if, listening_line, page_line};
+ghost use Rattle.day_base.specs.Texts.{places_text, station_line};
 
 use crate::fault::DayFault;
 use counter_desk::Settled;
@@ -41,36 +42,63 @@ pub fn put_listening<W: Write>(
     Ok(())
 }
 
-/// Writes where a station listens, on this port or at its doors alone, and where its page is, if it
-/// has one. However it ends, a front of these lines is written.
+/// Writes where a station listens, on this port or at its doors alone, and where its page and its
+/// feed are, if it has them on a port. However it ends, a front of these lines is written.
 pub fn put_places<W: Write>(
     alloc: Global,
     port: Option<u16>,
     page: Option<u16>,
+    feed: Option<u16>,
     writer: &mut Counted<W>,
     turns: &mut u64,
 ) -> Result<(), DayFault>
     ensures written { OnOk result (Appends (W.contents (device_of writer.old))
-        (W.contents (device_of writer.new)) (places_text port page)) }
+        (W.contents (device_of writer.new)) (places_text port page feed)) }
     ensures front { AppendsFront (W.contents (device_of writer.old))
-        (W.contents (device_of writer.new)) (places_text port page) }
+        (W.contents (device_of writer.new)) (places_text port page feed) }
 {
-    let lines = places_of(alloc, port, page)?;
+    let lines = places_of(alloc, port, page, feed)?;
     write_whole(writer, lines.as_str().as_bytes(), turns)?;
     Ok(())
 }
 
-/// The lines that tell where a station listens, and where its page is.
-fn places_of(alloc: Global, port: Option<u16>, page: Option<u16>) -> Result<String, NoMemory>
-    ensures { IfOk result (λ text. string_bytes text ≡ places_text port page) }
+/// The lines that tell where a station listens, and where its page and its feed are.
+fn places_of(
+    alloc: Global,
+    port: Option<u16>,
+    page: Option<u16>,
+    feed: Option<u16>,
+) -> Result<String, NoMemory>
+    ensures { IfOk result (λ text. string_bytes text ≡ places_text port page feed) }
 {
     let mut lines = station_line_of(alloc, port)?;
-    let Some(page) = page else {
-        return Ok(lines);
-    };
-    let line = page_line_of(alloc, page)?;
-    lines.push_str(line.as_str())?;
+    put_page_line(alloc, page, &mut lines)?;
+    put_feed_line(alloc, feed, &mut lines)?;
     Ok(lines)
+}
+
+/// Appends the line that tells where a station's page is, if it has one.
+fn put_page_line(alloc: Global, page: Option<u16>, lines: &mut String) -> Result<(), NoMemory>
+    ensures { OnOk result (string_bytes lines.new
+        ≡ string_bytes lines.old ++ line_if page_line page) }
+{
+    if let Some(page) = page {
+        let line = page_line_of(alloc, page)?;
+        lines.push_str(line.as_str())?;
+    }
+    Ok(())
+}
+
+/// Appends the line that tells where a station's feed is, if it has a port.
+fn put_feed_line(alloc: Global, feed: Option<u16>, lines: &mut String) -> Result<(), NoMemory>
+    ensures { OnOk result (string_bytes lines.new
+        ≡ string_bytes lines.old ++ line_if feed_line feed) }
+{
+    if let Some(feed) = feed {
+        let line = feed_line_of(alloc, feed)?;
+        lines.push_str(line.as_str())?;
+    }
+    Ok(())
 }
 
 /// The line that tells where a station listens.
@@ -88,6 +116,13 @@ fn page_line_of(alloc: Global, page: u16) -> Result<String, NoMemory>
     ensures { IfOk result (λ line. string_bytes line ≡ page_line page) }
 {
     Ok(format!(in alloc; "page http://127.0.0.1:{page}/\n")?)
+}
+
+/// The line that tells where a station's feed is.
+fn feed_line_of(alloc: Global, feed: u16) -> Result<String, NoMemory>
+    ensures { IfOk result (λ line. string_bytes line ≡ feed_line feed) }
+{
+    Ok(format!(in alloc; "feed 127.0.0.1:{feed}\n")?)
 }
 
 /// The line that tells where the server listens.

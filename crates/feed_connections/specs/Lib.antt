@@ -1,2 +1,3 @@
 pub mod FeedCalls
+pub mod Served
 pub mod Turns

@@ -5,9 +5,11 @@ ghost use Rattle.row_feed.specs.Feeds.{new_feed};
 ghost use Rattle.feed_connections.specs.Turns.{Turns};
 
 use crate::calls::{hear_once, send_once};
+use crate::feed_stream::FeedStream;
 use crate::progress::Progress;
 use crate::sizes::{ALIVE_SECONDS, ASKING_SECONDS, HEARD_OCTETS, TAKING_SECONDS};
 use connection_calls::{CALLS_A_TURN, Call};
+use mio::Registry;
 use row_feed::{ChapterStarts, Feed, Stage};
 use row_json::LastRows;
 use site_base::NoMemory;
@@ -26,8 +28,8 @@ pub struct FeedLink<S: Read + Write + Drop> {
     taken_at: Instant,
     /// When something was made for it last, or it came.
     made_at: Instant,
-    /// The peer sends no more.
-    has_said_all: bool,
+    /// What the peer has sent so far was read.
+    is_quiet: bool,
 }
 
 impl<S: Read + Write + Drop> Model for FeedLink<S> {
@@ -48,16 +50,33 @@ impl<S: Read + Write + Drop> FeedLink<S> {
             feed: Feed::new(alloc),
             taken_at: now,
             made_at: now,
-            has_said_all: false,
+            is_quiet: false,
         }
     }
 
-    /// Was its peer waited for too long: for its first line, or while something is pending?
+    /// The peer may have sent something.
+    pub fn note_ready(&mut self)
+        ensures { self.new ≡ self.old }
+    {
+        self.is_quiet = false;
+    }
+
+    /// Is it fed, and has it taken all that was made for it? Then the next row is for it.
+    pub fn waits_for_rows(&self) -> bool {
+        match self.feed.stage() {
+            Stage::Follows(_) => self.feed.pending().is_empty(),
+            _ => false,
+        }
+    }
+
+    /// Was its peer waited for too long: for its first line, while something is pending, or since
+    /// it is fed nothing more?
     pub fn is_late(&self, now: Instant) -> bool {
         let waited = now.duration_since(self.taken_at).as_secs();
         match self.feed.stage() {
             Stage::Asks => waited >= ASKING_SECONDS,
-            _ => !self.feed.pending().is_empty() && waited >= TAKING_SECONDS,
+            Stage::Follows(_) => !self.feed.pending().is_empty() && waited >= TAKING_SECONDS,
+            Stage::Over => waited >= TAKING_SECONDS,
         }
     }
 
@@ -72,6 +91,9 @@ impl<S: Read + Write + Drop> FeedLink<S> {
             return Ok(());
         }
         self.made_at = now;
+        if self.waits_for_rows() {
+            self.taken_at = now;
+        }
         self.feed.say_alive()
     }
 
@@ -109,7 +131,7 @@ impl<S: Read + Write + Drop> FeedLink<S> {
         match self.feed.stage() {
             Stage::Asks => self.hear(rows),
             Stage::Follows(_) => self.make(rows, starts, now),
-            Stage::Over => Ok(Progress::Over),
+            Stage::Over => self.leave(rows),
         }
     }
 
@@ -127,13 +149,19 @@ impl<S: Read + Write + Drop> FeedLink<S> {
     }
 
     /// Hears once what the peer sends.
-    #[tactic(auto, using(crate::proofs::Turning::turning))]
     fn hear(&mut self, rows: &LastRows) -> Result<Progress, NoMemory>
         ensures { OnOk result (Turns rows.now self.old self.new) }
     {
+        Ok(progress_after(self.hear_call(rows)?))
+    }
+
+    /// .. and says what became of the call.
+    #[tactic(auto, using(crate::proofs::Turning::turning))]
+    fn hear_call(&mut self, rows: &LastRows) -> Result<Call, NoMemory>
+        ensures { OnOk result (Turns rows.now self.old self.new) }
+    {
         let mut piece = [0; HEARD_OCTETS];
-        let call = hear_once(&mut self.stream, &mut self.feed, rows.next(), &mut piece)?;
-        Ok(progress_after(call))
+        hear_once(&mut self.stream, &mut self.feed, rows.next(), &mut piece)
     }
 
     /// Makes lines for the peer. Where there is no row for it, what it still says is passed over.
@@ -152,7 +180,7 @@ impl<S: Read + Write + Drop> FeedLink<S> {
             self.taken_at = now;
             return Ok(Progress::GoesOn);
         }
-        if self.has_said_all {
+        if self.is_quiet {
             return Ok(Progress::Waits);
         }
         self.look(rows)
@@ -164,13 +192,41 @@ impl<S: Read + Write + Drop> FeedLink<S> {
     fn look(&mut self, rows: &LastRows) -> Result<Progress, NoMemory>
         ensures { OnOk result (Turns rows.now self.old self.new) }
     {
-        match self.hear(rows)? {
-            Progress::Over => {
-                self.has_said_all = true;
+        match self.hear_call(rows)? {
+            Call::Waits | Call::Ended => {
+                self.is_quiet = true;
                 Ok(Progress::Waits)
             }
-            progress => Ok(progress),
+            call => Ok(progress_after(call)),
         }
+    }
+
+    /// Hears once what the peer of a feed that is over still says, which is passed over: a
+    /// connection that is closed before that loses what was sent last.
+    #[tactic(auto, using(crate::proofs::Turning::turning))]
+    fn leave(&mut self, rows: &LastRows) -> Result<Progress, NoMemory>
+        ensures { OnOk result (Turns rows.now self.old self.new) }
+    {
+        match self.hear(rows)? {
+            Progress::GoesOn => Ok(Progress::GoesOn),
+            _ => Ok(Progress::Over),
+        }
+    }
+}
+
+impl FeedLink<FeedStream> {
+    /// It is reported under this key when it is ready. Says whether that can be.
+    pub(crate) fn watch(&mut self, registry: &Registry, key: usize) -> bool
+        ensures { self.new ≡ self.old }
+    {
+        self.stream.watch(registry, key).is_ok()
+    }
+
+    /// It is reported once more, if it is ready.
+    pub(crate) fn watch_again(&mut self, registry: &Registry, key: usize)
+        ensures { self.new ≡ self.old }
+    {
+        self.stream.watch_again(registry, key);
     }
 }
 

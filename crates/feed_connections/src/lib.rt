@@ -1,12 +1,18 @@
-//! The connection of a feed's peer, whatever it passes through: what the peer sends is heard, and
-//! what is made for it is sent, in turns. A turn takes no longer than a few calls.
+//! The connections of a feed's peers. A `FeedLink` is that of one, whatever it passes through: what
+//! the peer sends is heard, and what is made for it is sent, in turns. A turn takes no longer than a
+//! few calls. `Feeds` has the listeners, and up to 64 links over sockets.
 #![tactic(auto)]
 
 mod calls;
 mod feed_link;
+mod feed_place;
+mod feed_stream;
+mod feeds;
 mod progress;
 mod sizes;
 
 pub use feed_link::FeedLink;
+pub use feed_stream::FeedStream;
+pub use feeds::Feeds;
 pub use progress::Progress;
 pub use sizes::{ALIVE_SECONDS, ASKING_SECONDS, TAKING_SECONDS};

@@ -11,3 +11,9 @@ pub const ALIVE_SECONDS: u64 = 10;
 
 /// So many octets of what a peer sends are read at once, at most.
 pub const HEARD_OCTETS: usize = 256;
+
+/// So many peers are fed at once, at most.
+pub const FEEDS: usize = 64;
+
+/// So often it is looked who is late, and who is to hear that the feed is alive.
+pub const FEED_SWEEP_SECONDS: u64 = 1;

@@ -1,5 +1,6 @@
 -- How many rows of a station's book stay in memory.
-use Rattle.std.specs.Prelude.{◌≡◌, ◌≤◌, ◌⊎◌, ◌+◌, ◌-◌, ◌^◌, ℕ, length, nat_lt, if◌then◌else◌}
+use Rattle.std.specs.Prelude.{◌≡◌, ◌≤◌, ◌⊎◌, ◌+◌, ◌-◌, ◌^◌, ℕ, Bool, length, nat_le, nat_lt}
+use Rattle.std.specs.Prelude.{if◌then◌else◌}
 use Rattle.site_book.specs.Book.{Book}
 use Rattle.station.specs.declared.sizes.TheConstants.{PIECE_ROWS}
 use Rattle.station.specs.Room.{HasRoomFor}
@@ -13,6 +14,10 @@ most_in_memory rows =
     if nat_lt ((rows - PIECE_ROWS) + 1) ROWS_IN_MEMORY
     then (rows - PIECE_ROWS) + 1
     else ROWS_IN_MEMORY
+
+-- so many rows of a book are in memory, or more
+abbrev pub is_crowded : Book → Bool
+is_crowded b = nat_le (most_in_memory b.config.rows) (length b.rows - b.forgotten)
 
 -- nothing was done, or the rows in memory were forgotten
 abbrev pub IsSameOrForgets : StationState → StationState → Type 0

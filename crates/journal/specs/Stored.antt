@@ -123,6 +123,11 @@ abbrev pub since_stored : List Row → Option JournalState → Option (List ℕ)
 since_stored rows None = None
 since_stored rows (Some j) = open_since (first_stored rows j)
 
+-- the last time that the journal of a station tells, if there is one
+abbrev pub time_of : Option JournalState → Option (List ℕ)
+time_of None = None
+time_of (Some j) = j.end.time
+
 -- the clock is behind the last time that a history tells
 abbrev pub is_behind : Option (List ℕ) → Option (List ℕ) → Bool
 is_behind (Some time) (Some last) = is_before time last

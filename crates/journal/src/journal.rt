@@ -145,6 +145,13 @@ impl<D: Disk> Journal<D> {
         self.end.last_seal()
     }
 
+    /// The last time that it tells, if it tells one.
+    pub(crate) fn last_time(&self) -> Option<Stamp>
+        ensures { result ≡ self.now.end.time }
+    {
+        self.end.time()
+    }
+
     /// The time of the first row of the shift that is open, if it has one and its time is known.
     pub(crate) fn open_since(&self) -> Option<Stamp>
         ensures { result ≡ open_since self.now.end.first }

@@ -6,7 +6,7 @@ ghost use Rattle.station.specs.declared.sizes.TheConstants.{PEERS};
 ghost use Rattle.station.specs.Peers.{peer_at};
 ghost use Rattle.station.specs.Gates.{count_at, open_gates};
 ghost use Rattle.station.specs.Moves.{end_release, lose, with_end, with_octets, with_taken};
-ghost use Rattle.station.specs.Moves.{without_peer};
+ghost use Rattle.station.specs.Moves.{without_old_rows, without_peer};
 ghost use Rattle.station.specs.Reads.{Arrives, ArrivesAt, IsNextOwed, NoneIsOwed, end_at};
 ghost use Rattle.station.specs.Reads.{is_read_at};
 ghost use Rattle.station.specs.Reads.{node_at, owed_at, speaker_at};
@@ -18,12 +18,12 @@ ghost use Rattle.chapters.specs.History.{IsHistory, empty_book};
 ghost use Rattle.chapters.specs.RowText.{IsSent};
 ghost use Rattle.journal.specs.declared.memory.TheConstants.{LEAST_ROWS};
 ghost use Rattle.journal.specs.ChapterEnds.{IsEndOf};
-ghost use Rattle.journal.specs.Memory.{HasRoomToHear, IsSameOrForgets};
+ghost use Rattle.journal.specs.Memory.{HasRoomToHear, is_crowded};
 ghost use Rattle.journal.specs.Opening.{HasNobodyOn};
 ghost use Rattle.journal.specs.Stored.{IsJournalOf, JournalGoesOn, LeavesReadsOut};
 ghost use Rattle.journal.specs.Stored.{WritesLines, clock_of, is_all_stored};
 ghost use Rattle.journal.specs.Stored.{is_clock_behind, since_of, since_stored};
-ghost use Rattle.journal.specs.Stored.{told_at, with_station};
+ghost use Rattle.journal.specs.Stored.{time_of, told_at, with_station};
 
 use crate::disk::{Disk, DiskFault};
 use crate::journal::{ChapterEnd, Journal};
@@ -103,22 +103,29 @@ impl<D: Disk> StoredStation<D> {
         }
     }
 
-    /// Makes room in the book for the rows of one read: where there may be none, each row is
-    /// stored, and all are forgotten. The site goes on, and so does what is unpaid. Where storing
-    /// fails, or memory is wanting, nothing is forgotten.
-    pub fn make_room(&mut self) -> Result<(), DiskFault>
-        ensures moves { IsSameOrForgets self.old.station self.new.station }
-        ensures journal { JournalGoesOn self.old.journal self.new.journal }
-        ensures room { OnOk result (HasRoomToHear self.new.station.book) }
-        ensures clock { clock_of self.new.journal ≡ clock_of self.old.journal }
-        ensures err { OnErr result (self.new.station ≡ self.old.station) }
+    /// Are so many rows in memory that those of one read more may fill the book?
+    pub fn is_crowded(&self) -> bool
+        ensures crowded { result ≡ is_crowded self.now.station.book }
+        ensures room { result ≡ false → HasRoomToHear self.now.station.book }
     {
-        if self.book().rows_in_memory() < most_in_memory(self.book().config()) {
-            return Ok(());
+        let most = most_in_memory(self.book().config());
+        if self.book().rows_in_memory() < most {
+            return false;
         }
-        self.store()?;
-        self.station.forget_rows(&mut self.unpaid)?;
-        Ok(())
+        true
+    }
+
+    /// Forgets the rows in memory, each of which is stored: there is room for those of one read
+    /// then. The site goes on, and so does what is unpaid. Where memory is wanting nothing is
+    /// forgotten.
+    pub fn forget_rows(&mut self) -> Result<(), NoMemory>
+        requires { is_all_stored self.old ≡ true }
+        ensures forgets { OnOk result (self.new.station ≡ without_old_rows self.old.station) }
+        ensures room { OnOk result (HasRoomToHear self.new.station.book) }
+        ensures err { OnErr result (self.new.station ≡ self.old.station) }
+        ensures journal { self.new.journal ≡ self.old.journal }
+    {
+        self.station.forget_rows(&mut self.unpaid)
     }
 
     /// Looks up which transactions of the book are unpaid.
@@ -235,6 +242,17 @@ impl<D: Disk> StoredStation<D> {
         match &self.journal {
             None => None,
             Some(journal) => Some(journal.last_seal()),
+        }
+    }
+
+    /// The last time that the history tells, if there is one and it tells one: once each row is
+    /// stored, that of the last kept row.
+    pub fn last_time(&self) -> Option<Stamp>
+        ensures { result ≡ time_of self.now.journal }
+    {
+        match &self.journal {
+            None => None,
+            Some(journal) => journal.last_time(),
         }
     }
 

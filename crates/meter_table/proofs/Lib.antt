@@ -6,3 +6,5 @@ pub mod Runs
 pub mod GapRows
 pub mod MoreLines
 pub mod GapLines
+pub mod GapsOver
+pub mod Pieces

@@ -8,9 +8,11 @@ use Rattle.site_base.specs.declared.event.Event.{Event}
 use Rattle.site_base.specs.declared.event.Event.TheVariants.{Flow, HangUp, Lift, ReplaceMeter}
 use Rattle.site_base.specs.declared.refusal.Refusal.{Refusal}
 use Rattle.site_base.specs.declared.row.Row.{Row}
+use Rattle.site_base.specs.Configured.{Configured}
 use Rattle.meters.specs.Nozzles.{reading_of}
 use Rattle.written_site.specs.SiteChecks.{first_refusal}
-use Rattle.written_site.specs.SiteState.{SiteState}
+use Rattle.written_site.specs.SiteState.{SiteState, opening}
+use Rattle.written_site.specs.SiteStep.{site_after}
 use Rattle.meter_table.specs.declared.gap.MeterReading.{MeterReading}
 use Rattle.meter_table.specs.declared.gap.RefusedRun.{RefusedRun}
 use Rattle.meter_table.specs.declared.gap.Replacement.{Replacement}
@@ -138,6 +140,18 @@ gaps_told place s r (Some x) g =
 -- the gaps with one row more, which stands at this place and comes to this site
 abbrev pub gaps_with : RowPlace → SiteState → Row → Gaps → Gaps
 gaps_with place s r g = gaps_told place s r (reading_told r.event) g
+
+-- the gaps with these rows more, which come to this site, and the first of which has this number;
+-- their times aren't known
+abbrev pub gaps_over : SiteState → ℕ → List Row → Gaps → Gaps
+gaps_over s n [] g = g
+gaps_over s n (r ∷ rows) g =
+    gaps_over (site_after s r.actor r.event) (n + 1) rows
+    (gaps_with (record { row = n; at = None }) s r g)
+
+-- the gaps of all rows of a day or a history
+abbrev pub gaps_of : Configured → List Row → Gaps
+gaps_of c rows = gaps_over (opening c) 0 rows no_gaps
 
 -- what a reader of gaps has: a site, and the gaps
 pub record GapsRead : Type 0 where

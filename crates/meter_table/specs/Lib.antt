@@ -4,3 +4,4 @@ pub mod Laws
 pub mod Gaps
 pub mod Tables
 pub mod People
+pub mod ReportLines

@@ -93,10 +93,10 @@ impl GapReader {
     }
 
     /// The gaps of the rows that were read.
-    pub fn gaps(&self) -> &GapList
-        ensures { result.now ≡ self.now.gaps }
+    pub fn into_gaps(self) -> GapList
+        ensures { result ≡ self.gaps }
     {
-        &self.gaps
+        self.gaps
     }
 }
 

@@ -2,7 +2,8 @@
 //! another, and counts for each nozzle what its meter metered, what was sold and drawn of it, and by
 //! how much replaced meters jumped; a `GapReader` notes each replaced meter and each run of readings
 //! that a meter refused. What they have read becomes a table: for people, as comma-separated values
-//! or as JSON. The lines add up, and no gap is lost (`specs/Laws.antt`).
+//! or as JSON; of gaps a report for people has lines, too (`specs/ReportLines.antt`). The lines add
+//! up, and no gap is lost (`specs/Laws.antt`).
 #![tactic(auto)]
 
 mod figure_lines;
@@ -15,6 +16,7 @@ mod gap_reader;
 mod laws;
 mod meter_reader;
 mod people;
+mod report_lines;
 mod tables;
 mod words;
 
@@ -28,4 +30,5 @@ pub use laws::{
     each_whole_line_adds_up, no_gap_is_lost,
 };
 pub use meter_reader::MeterReader;
+pub use report_lines::gap_words;
 pub use tables::{figures_table, gaps_table};

@@ -83,10 +83,10 @@ impl MeterReader {
     }
 
     /// The figures of each configured nozzle, in configured order.
-    pub fn figures(&self) -> &[NozzleFigures]
-        ensures { result.now ≡ self.now.figures }
+    pub fn into_figures(self) -> Vec<NozzleFigures>
+        ensures { result.items ≡ self.figures }
     {
-        &self.figures
+        self.figures
     }
 }
 

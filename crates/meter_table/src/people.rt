@@ -1,6 +1,6 @@
 //! The tables for people: litres with three decimals, in columns.
 
-ghost use Rattle.std.specs.Prelude.{◌≡◌, IfOk};
+ghost use Rattle.std.specs.Prelude.{◌≡◌, ◌++◌, IfOk, OnOk};
 ghost use Rattle.meter_table.specs.People.{last_digit, litres, litres_up};
 
 use crate::figures::NozzleFigures;
@@ -174,12 +174,11 @@ fn put_place(place: &RowPlace, text: &mut Vec<u8>) -> Result<(), AllocError> {
 
 /// Appends two readings and their difference.
 fn put_step(alloc: Global, old: u64, new: u64, text: &mut Vec<u8>) -> Result<(), AllocError> {
-    text.extend_from_slice(&litres(alloc, old)?)?;
+    put_litres(alloc, old, text)?;
     text.extend_from_slice(b" to ")?;
-    text.extend_from_slice(&litres(alloc, new)?)?;
+    put_litres(alloc, new, text)?;
     text.extend_from_slice(b", ")?;
-    text.extend_from_slice(&litres_up(alloc, new, old)?)?;
-    Ok(())
+    put_litres_up(alloc, new, old, text)
 }
 
 /// A number in decimal.
@@ -189,7 +188,31 @@ fn number(alloc: Global, n: u64) -> Result<Vec<u8>, AllocError> {
     Ok(text)
 }
 
+/// Appends litres with three decimals, of so many millilitres.
+pub(crate) fn put_litres(
+    alloc: Global,
+    millilitres: u64,
+    text: &mut Vec<u8>,
+) -> Result<(), AllocError>
+    ensures { OnOk result (text.new.items ≡ text.old.items ++ litres millilitres) }
+{
+    text.extend_from_slice(&litres(alloc, millilitres)?)
+}
+
+/// Appends the same of so many up less so many down, with their sign.
+pub(crate) fn put_litres_up(
+    alloc: Global,
+    up: u64,
+    down: u64,
+    text: &mut Vec<u8>,
+) -> Result<(), AllocError>
+    ensures { OnOk result (text.new.items ≡ text.old.items ++ litres_up up down) }
+{
+    text.extend_from_slice(&litres_up(alloc, up, down)?)
+}
+
 /// Litres with three decimals, of so many millilitres up less so many down, with their sign.
+#[tactic(auto, unfolding(crate::specs::People::litres_up))]
 fn litres_up(alloc: Global, up: u64, down: u64) -> Result<Vec<u8>, AllocError>
     ensures { IfOk result (λ text. text.items ≡ litres_up up down) }
 {
@@ -202,6 +225,7 @@ fn litres_up(alloc: Global, up: u64, down: u64) -> Result<Vec<u8>, AllocError>
 }
 
 /// Litres with three decimals, of so many millilitres.
+#[tactic(auto, unfolding(crate::specs::People::litres))]
 fn litres(alloc: Global, millilitres: u64) -> Result<Vec<u8>, AllocError>
     ensures { IfOk result (λ text. text.items ≡ litres millilitres) }
 {

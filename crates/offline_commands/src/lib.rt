@@ -6,6 +6,7 @@
 //! `meter_table`.
 #![tactic(auto)]
 
+mod book_text;
 mod check;
 mod counters;
 mod explain;

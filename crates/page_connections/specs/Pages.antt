@@ -13,12 +13,14 @@ abbrev pub calls_of : PageLink → List Call
 calls_of link = (history link.connection).calls
 
 -- what the page of a book shows: just its unpaid transactions, beside what else it is told
-abbrev pub shown_of : Book → ℕ → List PeerSession → Option (List ℕ) → Option (List ℕ) → Shown
-shown_of b connections sessions opened seal = record {
+abbrev pub shown_of : Book → ℕ → List PeerSession → Option (List ℕ) → Option (List ℕ)
+    → Option (List ℕ) → Shown
+shown_of b connections sessions at opened seal = record {
   book = b;
   unpaid = unpaid_sales b;
   connections = connections;
   sessions = sessions;
+  at = at;
   opened = opened;
   seal = seal;
 }

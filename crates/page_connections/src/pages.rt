@@ -95,7 +95,7 @@ impl Pages {
 
     /// Each connection that is ready has its turn with the page of the book, of which these are
     /// the unpaid transactions. `connections` is how many peers the station has, and `sessions` are
-    /// theirs; of its history, `opened` is the time of the open shift's first row, and `seal` the
+    /// theirs; `at` is what time it is; of its history, `opened` is the time of the open shift's first row, and `seal` the
     /// last seal.
     pub fn answer_due(
         &mut self,
@@ -104,6 +104,7 @@ impl Pages {
         unpaid: &[NamedSale],
         connections: usize,
         sessions: &[PeerSession],
+        at: Option<Stamp>,
         opened: Option<Stamp>,
         seal: Option<&str>,
         now: Instant,
@@ -117,6 +118,7 @@ impl Pages {
             unpaid,
             connections,
             sessions,
+            at,
             opened,
             seal,
         );
@@ -213,22 +215,23 @@ impl Pages {
     }
 }
 
-/// The page of a book with these unpaid transactions, so many connections, these sessions, this
-/// time of the open shift's first row and this last seal.
+/// The page of a book at this time, with these unpaid transactions, so many connections, these
+/// sessions, this time of the open shift's first row and this last seal.
 fn page_of<'a>(
     alloc: Global,
     book: &'a SiteBook,
     unpaid: &'a [NamedSale],
     connections: usize,
     sessions: &'a [PeerSession],
+    at: Option<Stamp>,
     opened: Option<Stamp>,
     seal: Option<&'a str>,
 ) -> Page<'a>
     requires { unpaid.now ≡ unpaid_sales book.now }
-    ensures { result ≡ shown_of book.now connections sessions.now opened
+    ensures { result ≡ shown_of book.now connections sessions.now at opened
         (option_copied seal.entry) }
 {
-    Page::new(alloc, book, unpaid, connections, sessions, opened, seal)
+    Page::new(alloc, book, unpaid, connections, sessions, at, opened, seal)
 }
 
 /// Closes a connection, if there is one.

@@ -1,7 +1,8 @@
 -- What is known of a key's own connection, as something is done with it.
 use Rattle.std.proofs.Common.{◌≡◌, ℕ, true, false, List, Option, Some, None, get_or, ap, sym}
-use Rattle.std.proofs.Common.{[], ◌∷◌, ◌∙◌, Bool, arith, inl, inr, refl, suc, subst}
+use Rattle.std.proofs.Common.{[], ◌∷◌, ◌∙◌, ◌≢◌, Bool, arith, inl, inr, refl, suc, subst}
 use Rattle.std.proofs.lemmas.Bool.Decides.{nat_tests}
+use Rattle.std.proofs.lemmas.List.{get_or-set_other}
 use Rattle.std.proofs.Math.ListN.{set}
 use Rattle.std.specs.Prelude.{◌==◌, is_some, length, not}
 use Rattle.station.specs.declared.peer_end.PeerEnd.TheVariants.{Behind}
@@ -14,8 +15,8 @@ use Rattle.peer_connections.specs.declared.link.Link.{Link}
 use Rattle.peer_connections.specs.Allowed.{IsSending}
 use Rattle.peer_connections.specs.Links.{ArePaired, has_link, has_peer}
 use Rattle.peer_connections.specs.Sending.{FailsAt, IsLetGo}
-use Rattle.peer_connections.specs.Streams.{GetsNoMore, HearsStream, SendsStream, known_at}
-use Rattle.peer_connections.specs.Streams.{known_of}
+use Rattle.peer_connections.specs.Streams.{StaysKnownAt, HearsStream, SendsStream, known_at}
+use Rattle.peer_connections.specs.Streams.{StayKnown, known_of}
 use Rattle.peer_connections.proofs.Leaving.{left_gone}
 use Rattle.peer_connections.proofs.Linking.{others_same, others_set}
 use Rattle.peer_connections.proofs.Pairing.{gone_link, reach_same, sending_still}
@@ -34,29 +35,60 @@ known_set : {S : Type 0} (known : S → Option (List ℕ)) (key : ℕ) (links : 
     → known_at known (set links key (Some link)) key ≡ known link.stream
 known_set known key links old link is = ap (known_of known) (set_there key links old link is)
 
--- ---- it got no more
+-- ---- what is known of it stays
 
 pub no_more_same : {S : Type 0} (got : S → Option (List ℕ)) (key : ℕ)
-    (links links' : List (Option (Link S))) → links' ≡ links → GetsNoMore got key links links'
-no_more_same got key links links' same is =
-    ap (λ (l : List (Option (Link _))). known_at got l key) same
+    (links links' : List (Option (Link S))) → links' ≡ links → StaysKnownAt got key links links'
+no_more_same got key links links' same is = (
+  ap (λ (l : List (Option (Link _))). has_link l key) (sym same) ∙ is,
+  ap (λ (l : List (Option (Link _))). known_at got l key) same,
+)
 
 pub no_more_set : {S : Type 0} (got : S → Option (List ℕ)) (key : ℕ)
     (links : List (Option (Link S))) (old link : Link S) → get_or links key None ≡ Some old
-    → got link.stream ≡ got old.stream → GetsNoMore got key links (set links key (Some link))
+    → got link.stream ≡ got old.stream → StaysKnownAt got key links (set links key (Some link))
 no_more_set got key links old link is same there =
-    known_set got key links old link is ∙ same ∙ sym (known_there got key links old is)
+    (ap is_some is, known_set got key links old link is ∙ same ∙ sym (known_there got key links old is))
 
 pub no_more_gone : {S : Type 0} (got : S → Option (List ℕ)) (key : ℕ)
-    (links : List (Option (Link S))) → GetsNoMore got key links (set links key None)
+    (links : List (Option (Link S))) → StaysKnownAt got key links (set links key None)
 no_more_gone got key links there =
     absurd (let never : false ≡ true = sym (ap is_some (gone_link key links)) ∙ there in cc)
 
--- .. in one thing after another: where it is there at the end, it was before
+-- .. in one thing after another
 pub no_more_then : {S : Type 0} (got : S → Option (List ℕ)) (key : ℕ)
-    (a b c : List (Option (Link S))) → (has_link c key ≡ true → has_link b key ≡ true)
-    → GetsNoMore got key a b → GetsNoMore got key b c → GetsNoMore got key a c
-no_more_then got key a b c was one two there = two there ∙ one (was there)
+    (a b c : List (Option (Link S))) → StaysKnownAt got key a b → StaysKnownAt got key b c
+    → StaysKnownAt got key a c
+no_more_then got key a b c one two there =
+    ((one (two there).0).0, (two there).1 ∙ (one (two there).0).1)
+
+-- ---- of each connection it is what it was
+
+pub known_same : {S : Type 0} (known : S → Option (List ℕ)) (links links' : List (Option (Link S)))
+    → links' ≡ links → StayKnown known links links'
+known_same {S = S} known links links' same k =
+    ap (λ (l : List (Option (Link S))). known_at known l k) same
+
+pub known_still : {S : Type 0} (known : S → Option (List ℕ)) (key : ℕ)
+    (links : List (Option (Link S))) (old link : Link S) → get_or links key None ≡ Some old
+    → known link.stream ≡ known old.stream
+    → StayKnown known links (set links key (Some link))
+known_still known key links old link is same k = by_key (k == key) refl
+  where
+    by_key : (b : Bool) → (k == key) ≡ b
+        → known_at known (set links key (Some link)) k ≡ known_at known links k
+    by_key true here =
+        let is_key : k ≡ key = grind (arith, nat_tests) in
+        subst (λ (i : ℕ). known_at known (set links key (Some link)) i ≡ known_at known links i)
+        (sym is_key)
+        (known_set known key links old link is ∙ same ∙ sym (known_there known key links old is))
+    by_key false other =
+        let apart : k ≢ key = grind (arith, nat_tests) in
+        ap (known_of known) (get_or-set_other links key k (Some link) None apart)
+
+pub known_then : {S : Type 0} (known : S → Option (List ℕ)) (a b c : List (Option (Link S)))
+    → StayKnown known a b → StayKnown known b c → StayKnown known a c
+known_then known a b c one two k = two k ∙ one k
 
 -- ---- it was heard, and sent to
 
@@ -179,6 +211,13 @@ pub fails_there : {S : Type 0} (key : ℕ) (links : List (Option (Link S))) (old
     → FailsAt (get_or (set links key (Some link)) key None)
 fails_there {S = S} key links old link is failed =
     subst (λ (l : Option (Link S)). FailsAt l) (sym (set_there key links old link is)) failed
+
+-- a connection of which nothing is read, and that is sent nothing
+pub ruleset known_as_before = (
+  known_same,
+  known_still,
+  known_then,
+)
 
 -- a peer that is heard
 pub ruleset heard = (

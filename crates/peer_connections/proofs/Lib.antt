@@ -1,4 +1,7 @@
+pub mod Coming
 pub mod Dues
+pub mod Feeding
+pub mod Getting
 pub mod Known
 pub mod Leaving
 pub mod Linking

@@ -268,7 +268,7 @@ continue_to {S = S} got j might links a b s t sends by journal few stay before k
         let was = before j (sends.there is) in record {
           sent = was.sent ++ sends.sends.sent;
           written = subst (λ (u : Option (List ℕ)). Appends (known_at got links j) u
-              (was.sent ++ sends.sends.sent)) (sym (sends.no_more is))
+              (was.sent ++ sends.sends.sent)) (sym (sends.no_more is).1)
               (Appends-then (known_at got links j) (known_at got a j)
               (known_at got sends.between j) was.sent sends.sends.sent was.written
               sends.sends.written);

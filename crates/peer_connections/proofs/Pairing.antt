@@ -33,8 +33,8 @@ use Rattle.peer_connections.specs.Links.{has_peer}
 use Rattle.peer_connections.specs.Reaches.{AreAllowed, ReachesBy}
 use Rattle.peer_connections.specs.Streams.{HearsStream, SendsStream}
 use Rattle.peer_connections.proofs.Linking.{others_same, others_set}
-use Rattle.peer_connections.proofs.Seeing.{came_book, came_book_at, seen_book, seen_ended, seen_left}
-use Rattle.peer_connections.proofs.Seeing.{seen_linked, seen_room, seen_same, seen_sent}
+use Rattle.peer_connections.proofs.Seeing.{came_book, came_book_at, seen_all, seen_book, seen_ended}
+use Rattle.peer_connections.proofs.Seeing.{seen_left, seen_linked, seen_room, seen_same, seen_sent}
 
 -- ---- the same are there
 
@@ -446,6 +446,7 @@ paired_unlinked key links s waits k = by_key (key == k) refl ∙ sym (left_peer 
 -- ---- what each function is made of
 
 pub ruleset paired = (
+  seen_all,
   others_same,
   others_set,
   paired_same,

@@ -4,7 +4,7 @@ use Rattle.std.proofs.Common.{◌+◌, ◌*◌, ◌<◌, ◌≤◌, Bool, arith,
 use Rattle.std.proofs.Common.{append-nil}
 use Rattle.std.specs.Io.KnownBytes.{Consumes, Keeps}
 use Rattle.devices.proofs.KnownBytes.{Consumes-kept, Consumes-none}
-use Rattle.std.specs.Prelude.{IfSome, ◌&&◌, is_none, nat_lt, slice_get, if◌then◌else◌}
+use Rattle.std.specs.Prelude.{IfSome, ◌&&◌, ◌⊎◌, is_none, nat_lt, slice_get, if◌then◌else◌}
 use Rattle.std.proofs.lemmas.Bool.Decides.{nat_tests}
 use Rattle.station.specs.declared.peer_end.PeerEnd.{PeerEnd}
 use Rattle.station.specs.declared.sizes.TheConstants.{FREE_PLACES, NODE_SESSIONS}
@@ -27,7 +27,8 @@ use Rattle.connection_calls.specs.declared.call.Call.{Call}
 use Rattle.connection_calls.specs.declared.call.Call.TheVariants.{Ended, Failed, Interrupted}
 use Rattle.connection_calls.specs.declared.call.Call.TheVariants.{Passed, Waits}
 use Rattle.peer_connections.specs.Allowed.{IsClosing, IsDismissal, IsEnding, IsFollowing}
-use Rattle.peer_connections.specs.Allowed.{IsHearing, IsLate, IsOwn, IsPassing, IsSameOrLeft}
+use Rattle.peer_connections.specs.Allowed.{IsHeard, IsHearing, IsLate, IsOwn, IsPassing}
+use Rattle.peer_connections.specs.Allowed.{IsArrival, IsSameOrLeft}
 use Rattle.peer_connections.specs.Allowed.{IsSending, IsWelcome, is_known, is_place_of}
 use Rattle.peer_connections.specs.Allowed.{is_served_at, lasts, lasts_at}
 use Rattle.peer_connections.specs.Calls.{HearsCall, HearsWithRoom, SendsCall}
@@ -127,6 +128,21 @@ pub reaches_any : (allowed : Move → StationState → Type 0) (s t : StoredStat
     → ReachesBy allowed s t → Reaches s t
 reaches_any allowed s t by = reaches_wider allowed IsAny (λ m u is. tt) s t by
 
+-- whoever is heard is one of those that are
+pub reaches_heard : (k : ℕ) (s t : StoredState) → ReachesBy (IsHearing k) s t
+    → ReachesBy IsHeard s t
+reaches_heard k s t by = reaches_wider (IsHearing k) IsHeard wider s t by
+  where
+    wider : (m : Move) (u : StationState) → IsHearing k m u → IsHeard m u
+    wider (Says memory j octets) u is = is.1
+    wider (Finishes j) u is = is.1
+    wider Forgets u is = tt
+    wider (Arrives j door) u is = absurd is
+    wider (Takes j n) u is = absurd is
+    wider (Leaves j) u is = absurd is
+    wider (EndsRelease on off p) u is = absurd is
+    wider (Loses memory p) u is = absurd is
+
 -- whoever is sent to may close
 pub reaches_closing : (k : ℕ) (s t : StoredState) → ReachesBy (IsSending k) s t
     → ReachesBy (IsClosing k) s t
@@ -158,6 +174,20 @@ reaches_welcome door s t by = reaches_wider (IsDismissal door) (IsWelcome door) 
     wider Forgets u is = absurd is
 
 -- .. and whoever leaves over TCP for one at any door
+pub reaches_arriving : (door : Option ℕ) (s t : StoredState) → ReachesBy (IsArrival door) s t
+    → ReachesBy (IsWelcome door) s t
+reaches_arriving door s t by = reaches_wider (IsArrival door) (IsWelcome door) wider s t by
+  where
+    wider : (m : Move) (u : StationState) → IsArrival door m u → IsWelcome door m u
+    wider (Arrives key at) u is = is
+    wider (Leaves j) u is = absurd is
+    wider (Takes j n) u is = absurd is
+    wider (Finishes j) u is = absurd is
+    wider (Says memory j octets) u is = absurd is
+    wider (EndsRelease on off p) u is = absurd is
+    wider (Loses memory p) u is = absurd is
+    wider Forgets u is = absurd is
+
 pub reaches_way : (door : Option ℕ) (s t : StoredState) → ReachesBy (IsDismissal None) s t
     → ReachesBy (IsWelcome door) s t
 reaches_way door s t by = reaches_wider (IsDismissal None) (IsWelcome door) wider s t by
@@ -202,21 +232,7 @@ reaches_ending k s t by = reaches_wider (IsSending k) IsEnding wider s t by
     wider (Loses memory p) u is = absurd is
     wider Forgets u is = absurd is
 
--- what is done as time passes: connections follow their sessions
-pub reaches_passing : (s t : StoredState) → ReachesBy IsFollowing s t → ReachesBy IsPassing s t
-reaches_passing s t by = reaches_wider IsFollowing IsPassing wider s t by
-  where
-    wider : (m : Move) (u : StationState) → IsFollowing m u → IsPassing m u
-    wider (Takes j n) u is = tt
-    wider (Finishes j) u is = tt
-    wider (Leaves j) u is = tt
-    wider (Arrives j door) u is = absurd is
-    wider (Says memory j octets) u is = absurd is
-    wider (EndsRelease on off p) u is = absurd is
-    wider (Loses memory p) u is = absurd is
-    wider Forgets u is = absurd is
-
--- .. whoever is late leaves
+-- what is done as time passes: whoever is late leaves
 pub reaches_passing_late : (k : ℕ) (s t : StoredState) → ReachesBy (IsLate k) s t
     → ReachesBy IsPassing s t
 reaches_passing_late k s t by = reaches_wider (IsLate k) IsPassing wider s t by
@@ -407,11 +423,11 @@ of_key door first last k is few low high =
 
 -- a peer came, if there was a key for it
 pub reaches_arrival : (key : Option ℕ) (s t : StoredState) → GetsKey key s.station t.station
-    → t.journal ≡ s.journal → ReachesBy (IsWelcome None) s t
+    → t.journal ≡ s.journal → ReachesBy (IsArrival None) s t
 reaches_arrival None s t gets same =
-    reaches_kept (IsWelcome None) s t gets.0 (goes_same s.journal t.journal same)
+    reaches_kept (IsArrival None) s t gets.0 (goes_same s.journal t.journal same)
 reaches_arrival (Some k) s t gets same =
-    reaches_by (IsWelcome None) (Arrives k None) s t tt refl
+    reaches_by (IsArrival None) (Arrives k None) s t tt refl
     (gets.3 ∙ sym (given_is (nat_lt k FREE_PLACES) k None (peer_at s.station.peers k) s.station
     (free_place k gets.1) gets.2))
     (goes_same s.journal t.journal same)
@@ -419,7 +435,7 @@ reaches_arrival (Some k) s t gets same =
 -- .. at a door
 pub reaches_door : (door : ℕ) (key : Option ℕ) (s t : StoredState)
     → ArrivesAt door key s.station t.station → t.journal ≡ s.journal
-    → ReachesBy (IsWelcome (Some door)) s t
+    → ReachesBy (IsArrival (Some door)) s t
 reaches_door door key s t gets same =
     by_node (slice_get s.station.gates.doors door) refl key gets
   where
@@ -428,11 +444,11 @@ reaches_door door key s t gets same =
 
     by_node : (node : Option (List ℕ)) → slice_get s.station.gates.doors door ≡ node
         → (key : Option ℕ)
-        → arrives_at node door key s.station t.station → ReachesBy (IsWelcome (Some door)) s t
-    by_node None is key gets = reaches_kept (IsWelcome (Some door)) s t gets.1 goes
-    by_node (Some node) is None gets = reaches_kept (IsWelcome (Some door)) s t gets.0 goes
+        → arrives_at node door key s.station t.station → ReachesBy (IsArrival (Some door)) s t
+    by_node None is key gets = reaches_kept (IsArrival (Some door)) s t gets.1 goes
+    by_node (Some node) is None gets = reaches_kept (IsArrival (Some door)) s t gets.0 goes
     by_node (Some node) is (Some k) gets =
-        reaches_by (IsWelcome (Some door)) (Arrives k (Some door)) s t tt refl
+        reaches_by (IsArrival (Some door)) (Arrives k (Some door)) s t tt refl
         (gets.3 ∙ sym (ap (λ n. give_at k door n s.station) is
         ∙ given_is (is_place_at door k) k (Some node) (peer_at s.station.peers k) s.station
         (place_at door k gets.0 gets.1) gets.2))
@@ -466,19 +482,20 @@ still_read k s t (inr forgets) read = ap (λ (x : StationState). is_read_at x k)
 
 -- what is read, where there is room, once the journal went on so far
 pub reaches_read : (call : Call) (k : ℕ) (left left' : Option (List ℕ)) (s t : StoredState)
-    → HasRoomToHear s.station.book → HearsCall call k left left' s.station t.station
+    → HasRoomToHear s.station.book → is_read_at s.station k ≡ true
+    → HearsCall call k left left' s.station t.station
     → JournalGoesOn s.journal t.journal → ReachesBy (IsHearing k) s t
-reaches_read (Passed n) k left left' s t room hears goes =
+reaches_read (Passed n) k left left' s t room read hears goes =
     reaches_by (IsHearing k) (Says hears.memory k hears.octets) s t
-    (omega (arith, hears.size, hears.few), room) refl hears.heard goes
-reaches_read Ended k left left' s t room hears goes =
-    reaches_by (IsHearing k) (Finishes k) s t tt refl hears.1 goes
-reaches_read Interrupted k left left' s t room hears goes =
+    (omega (arith, hears.size, hears.few), room) (refl, read) hears.heard goes
+reaches_read Ended k left left' s t room read hears goes =
+    reaches_by (IsHearing k) (Finishes k) s t tt (refl, read) hears.1 goes
+reaches_read Interrupted k left left' s t room read hears goes =
     reaches_kept (IsHearing k) s t hears.1 goes
-reaches_read Waits k left left' s t room hears goes =
+reaches_read Waits k left left' s t room read hears goes =
     reaches_kept (IsHearing k) s t hears.1 goes
-reaches_read Failed k left left' s t room hears goes =
-    reaches_by (IsHearing k) (Finishes k) s t tt refl hears.1 goes
+reaches_read Failed k left left' s t room read hears goes =
+    reaches_by (IsHearing k) (Finishes k) s t tt (refl, read) hears.1 goes
 
 -- room was made for what is read of this peer
 pub reaches_ready : (k : ℕ) (s t : StoredState) → IsSameOrForgets s.station t.station
@@ -495,7 +512,7 @@ reaches_heard_with_room call k left left' s t hears goes =
     let ready = with_station hears.ready s in
     reaches_then (IsHearing k) s ready t
     (reaches_ready k s ready hears.makes (goes_same s.journal s.journal refl))
-    (reaches_read call k left left' ready t hears.room hears.hears goes)
+    (reaches_read call k left left' ready t hears.room hears.of_read hears.hears goes)
 
 pub reaches_written : (call : Call) (k : ℕ) (got got' : Option (List ℕ)) (s t : StoredState)
     → SendsCall call k got got' s t → ReachesBy (IsSending k) s t
@@ -523,6 +540,37 @@ pub moves_of_both : (allowed : Move → StationState → Type 0) (s t u : Stored
 unfolding reaches_then
 moves_of_both allowed s t u first last = refl
 
+pub moves_of_dismissed : (door : Option ℕ) (k : ℕ) (s t : StoredState)
+    (place : is_place_of door k ≡ true) (unserved : is_served_at s.station k ≡ false)
+    (left : t ≡ with_station (without_peer k s.station) s)
+    → (reaches_dismissed door k s t place unserved left).moves ≡ Leaves k ∷ []
+unfolding reaches_dismissed reaches_moved reaches_by
+moves_of_dismissed door k s t place unserved left = refl
+
+pub moves_of_unlinked : (door : Option ℕ) (k : ℕ) (s t : StoredState)
+    (place : is_place_of door k ≡ true) (unserved : is_served_at s.station k ≡ false)
+    (left : IsSameOrLeft k s t)
+    → ((reaches_unlinked door k s t place unserved left).moves ≡ [])
+    ⊎ ((reaches_unlinked door k s t place unserved left).moves ≡ Leaves k ∷ [])
+unfolding reaches_unlinked reaches_same reaches_kept reaches_moved reaches_by
+moves_of_unlinked door k s t place unserved (inl same) = inl refl
+moves_of_unlinked door k s t place unserved (inr left) = inr refl
+
+pub moves_of_arriving : (door : Option ℕ) (s t : StoredState) (by : ReachesBy (IsArrival door) s t)
+    → (reaches_arriving door s t by).moves ≡ by.moves
+unfolding reaches_arriving reaches_wider
+moves_of_arriving door s t by = refl
+
+pub moves_of_welcome : (door : Option ℕ) (s t : StoredState)
+    (by : ReachesBy (IsDismissal door) s t) → (reaches_welcome door s t by).moves ≡ by.moves
+unfolding reaches_welcome reaches_wider
+moves_of_welcome door s t by = refl
+
+pub moves_of_way : (door : Option ℕ) (s t : StoredState) (by : ReachesBy (IsDismissal None) s t)
+    → (reaches_way door s t by).moves ≡ by.moves
+unfolding reaches_way reaches_wider
+moves_of_way door s t by = refl
+
 -- what was said while room was made, and in a read
 pub said_ready : (k : ℕ) (s t : StoredState) (made : IsSameOrForgets s.station t.station)
     (goes : JournalGoesOn s.journal t.journal) → said_in (reaches_ready k s t made goes).moves ≡ []
@@ -531,17 +579,17 @@ said_ready k s t (inl same) goes = refl
 said_ready k s t (inr forgets) goes = refl
 
 pub said_read : (call : Call) (k : ℕ) (left left' : Option (List ℕ)) (s t : StoredState)
-    (room : HasRoomToHear s.station.book)
+    (room : HasRoomToHear s.station.book) (read : is_read_at s.station k ≡ true)
     (hears : HearsCall call k left left' s.station t.station)
     (goes : JournalGoesOn s.journal t.journal)
-    → Consumes left left' (said_in (reaches_read call k left left' s t room hears goes).moves)
+    → Consumes left left' (said_in (reaches_read call k left left' s t room read hears goes).moves)
 unfolding reaches_read reaches_kept reaches_by
-said_read (Passed n) k left left' s t room hears goes =
+said_read (Passed n) k left left' s t room read hears goes =
     subst (Consumes left left') (sym (append-nil hears.octets)) hears.read
-said_read Ended k left left' s t room hears goes = hears.0
-said_read Interrupted k left left' s t room hears goes = consumed_none left left' hears.0
-said_read Waits k left left' s t room hears goes = consumed_none left left' hears.0
-said_read Failed k left left' s t room hears goes = consumed_none left left' hears.0
+said_read Ended k left left' s t room read hears goes = hears.0
+said_read Interrupted k left left' s t room read hears goes = consumed_none left left' hears.0
+said_read Waits k left left' s t room read hears goes = consumed_none left left' hears.0
+said_read Failed k left left' s t room read hears goes = consumed_none left left' hears.0
 
 -- ---- what each function is made of
 
@@ -569,6 +617,7 @@ pub ruleset welcomed = (
   reaches_dismissed,
   reaches_unlinked,
   reaches_arrival,
+  reaches_arriving,
   reaches_door,
 )
 
@@ -598,7 +647,6 @@ pub ruleset passed = (
   reaches_same,
   reaches_then,
   reaches_kept,
-  reaches_passing,
   reaches_passing_late,
   reaches_passing_own,
 )

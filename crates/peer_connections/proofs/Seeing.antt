@@ -1,8 +1,11 @@
 -- No row is forgotten before it is looked at: which rows were, as the station moves.
 use Rattle.std.proofs.Common.{◌≡◌, ◌≤◌, ℕ, Bool, true, false, List, [], ◌∷◌, Option, Some, None}
-use Rattle.std.proofs.Common.{ap, arith, inl, inr, length, subst, sym, ◌∙◌}
+use Rattle.std.proofs.Common.{ap, append-nil, append_assoc, arith, inl, inr, length, refl, subst}
+use Rattle.std.proofs.Common.{suc, sym, zero, ◌++◌, ◌<◌, ◌∙◌}
+use Rattle.std.proofs.lemmas.Bool.Decides.{nat_tests}
 use Rattle.std.proofs.lemmas.List.{length-append}
-use Rattle.std.specs.Prelude.{if◌then◌else◌, slice_get}
+use Rattle.std.specs.Prelude.{if◌then◌else◌, nat_lt, slice_get}
+use Rattle.site_base.specs.declared.row.Row.{Row}
 use Rattle.site_book.specs.Book.{Book, with_rows_forgotten}
 use Rattle.station.specs.Moves.{StationState, end_release, lose, with_end}
 use Rattle.station.specs.Moves.{without_peer}
@@ -16,11 +19,12 @@ use Rattle.journal.proofs.Moves.{move_adds}
 use Rattle.connection_calls.specs.declared.call.Call.{Call}
 use Rattle.connection_calls.specs.declared.call.Call.TheVariants.{Ended, Failed, Interrupted}
 use Rattle.connection_calls.specs.declared.call.Call.TheVariants.{Passed, Waits}
-use Rattle.peer_connections.specs.Allowed.{IsSameOrLeft, IsSending}
-use Rattle.peer_connections.specs.Calls.{HearsCall}
-use Rattle.peer_connections.specs.Reaches.{AreAllowed}
-use Rattle.peer_connections.specs.Sending.{HasSeen}
-use Rattle.peer_connections.specs.Streams.{SendsStream}
+use Rattle.peer_connections.specs.declared.change_watch.ChangeWatch.{ChangeWatch}
+use Rattle.peer_connections.specs.Allowed.{IsHearing, IsSameOrLeft, IsSending}
+use Rattle.peer_connections.specs.Calls.{HearsCall, HearsWithRoom}
+use Rattle.peer_connections.specs.Reaches.{AreAllowed, ReachesBy}
+use Rattle.peer_connections.specs.Sending.{GoesOn, HasChange, HasSeen, KeepsChanges}
+use Rattle.peer_connections.specs.Streams.{HearsStream, SendsStream}
 
 -- a move that forgets nothing
 seen_move : (n : ℕ) (m : Move) (s : StationState) → (m ≡ Forgets → ⊥) → HasSeen n s.book
@@ -146,6 +150,16 @@ seen_room n s t (inr forgets) all behind =
     subst (λ (u : StationState). HasSeen n u.book) (sym forgets)
     (seen_forgotten n s.book all behind)
 
+-- each row was looked at, while the book stays
+pub seen_all : (n m : ℕ) (s t : StationState) → t ≡ s → n ≡ length t.book.rows → HasSeen m s.book
+    → HasSeen n t.book
+seen_all n m s t same all seen =
+    subst (λ (u : StationState). n ≡ length u.book.rows → HasSeen n u.book) (sym same)
+    (λ all. record {
+      each = omega (arith, all, seen.each, seen.those);
+      those = omega (arith, all);
+    }) all
+
 -- .. and it is read
 pub seen_read : (n : ℕ) (call : Call) (k : ℕ) (left left' : Option (List ℕ)) (s t : StationState)
     → HearsCall call k left left' s t → HasSeen n s.book → HasSeen n t.book
@@ -169,6 +183,166 @@ seen_read n Interrupted k left left' s t hears seen =
 seen_read n Waits k left left' s t hears seen =
     subst (λ (u : StationState). HasSeen n u.book) (sym hears.1) seen
 
+-- ---- which changes are noted
+
+pub on_same : (b : Book) → GoesOn b b
+on_same b = record { more = []; rows = sym (append-nil b.rows) }
+
+forgotten_on : (b : Book) → GoesOn b (with_rows_forgotten b)
+forgotten_on b = by_count _
+  where
+    by_count : (few : Bool)
+        → GoesOn b (if few then record b { forgotten = length b.rows } else b)
+    by_count true = record { more = []; rows = sym (append-nil b.rows) }
+    by_count false = on_same b
+
+-- a move only adds rows to a book
+moved_on : (m : Move) (s : StationState) → GoesOn s.book (after_move m s).book
+moved_on m s = by_move m s
+  where
+    adds_on : (m : Move) (s : StationState) → (m ≡ Forgets → ⊥)
+        → GoesOn s.book (after_move m s).book
+    adds_on m s other =
+        let adds : Adds s.book (after_move m s).book = move_adds m s other in
+        record { more = adds.later; rows = adds.rows }
+
+    by_move : (m : Move) (s : StationState) → GoesOn s.book (after_move m s).book
+    by_move Forgets s = forgotten_on s.book
+    by_move (Arrives j door) s = adds_on (Arrives j door) s (λ is. cc)
+    by_move (Says memory j octets) s = adds_on (Says memory j octets) s (λ is. cc)
+    by_move (Takes j n) s = adds_on (Takes j n) s (λ is. cc)
+    by_move (Finishes j) s = adds_on (Finishes j) s (λ is. cc)
+    by_move (Leaves j) s = adds_on (Leaves j) s (λ is. cc)
+    by_move (EndsRelease on off p) s = adds_on (EndsRelease on off p) s (λ is. cc)
+    by_move (Loses memory p) s = adds_on (Loses memory p) s (λ is. cc)
+
+on_then : (a b c : Book) → GoesOn a b → GoesOn b c → GoesOn a c
+on_then a b c one two = record {
+  more = one.more ++ two.more;
+  rows = two.rows ∙ ap (λ (r : List Row). r ++ two.more) one.rows
+      ∙ append_assoc a.rows one.more two.more;
+}
+
+moves_on : (ms : List Move) (s : StationState) → GoesOn s.book (after ms s).book
+moves_on [] s = on_same s.book
+moves_on (m ∷ ms) s =
+    on_then s.book (after_move m s).book (after ms (after_move m s)).book (moved_on m s)
+    (moves_on ms (after_move m s))
+
+-- a station that stays
+pub kept_on : (s t : StationState) → t ≡ s → GoesOn s.book t.book
+kept_on s t same =
+    subst (λ (u : StationState). GoesOn s.book u.book) (sym same) (on_same s.book)
+
+-- .. and so do those that lead from one station to another
+pub reached_on : (allowed : Move → StationState → Type 0) (s t : StoredState)
+    → ReachesBy allowed s t → GoesOn s.station.book t.station.book
+reached_on allowed s t by =
+    subst (λ (u : StationState). GoesOn s.station.book u.book) (sym by.lead)
+    (moves_on by.moves s.station)
+
+-- .. while a peer is heard
+heard_on : (key : ℕ) (left left' : Option (List ℕ)) (s t : StoredState)
+    → HearsStream key left left' s t → GoesOn s.station.book t.station.book
+heard_on key left left' s t heard = reached_on (IsHearing key) s t heard.moves
+
+-- .. and while room is made, and it is read once
+pub made_on : (s t : StationState) → IsSameOrForgets s t → GoesOn s.book t.book
+made_on s t (inl same) =
+    subst (λ (u : StationState). GoesOn s.book u.book) (sym same) (on_same s.book)
+made_on s t (inr forgets) =
+    subst (λ (u : StationState). GoesOn s.book u.book) (sym forgets) (forgotten_on s.book)
+
+pub read_on : (call : Call) (k : ℕ) (left left' : Option (List ℕ)) (s t : StationState)
+    → HearsCall call k left left' s t → GoesOn s.book t.book
+read_on (Passed o) k left left' s t hears =
+    subst (λ (u : StationState). GoesOn s.book u.book) (sym hears.heard)
+    (moved_on (Says hears.memory k hears.octets) s)
+read_on Ended k left left' s t hears =
+    subst (λ (u : StationState). GoesOn s.book u.book) (sym hears.1) (moved_on (Finishes k) s)
+read_on Failed k left left' s t hears =
+    subst (λ (u : StationState). GoesOn s.book u.book) (sym hears.1) (moved_on (Finishes k) s)
+read_on Interrupted k left left' s t hears =
+    subst (λ (u : StationState). GoesOn s.book u.book) (sym hears.1) (on_same s.book)
+read_on Waits k left left' s t hears =
+    subst (λ (u : StationState). GoesOn s.book u.book) (sym hears.1) (on_same s.book)
+
+pub room_and_read_on : (call : Call) (k : ℕ) (left left' : Option (List ℕ))
+    (s ready t : StationState) → IsSameOrForgets s ready → HearsCall call k left left' ready t
+    → GoesOn s.book t.book
+room_and_read_on call k left left' s ready t made hears =
+    on_then s.book ready.book t.book (made_on s ready made)
+    (read_on call k left left' ready t hears)
+
+-- .. as it is read with room
+pub with_room_on : (call : Call) (k : ℕ) (left left' : Option (List ℕ)) (s t : StationState)
+    → HearsWithRoom call k left left' s t → GoesOn s.book t.book
+with_room_on call k left left' s t hears =
+    room_and_read_on call k left left' s hears.ready t hears.makes hears.hears
+
+-- a row that a book has stays in its place
+there_still : (rows more : List Row) (at : ℕ) (row : Row) → at < length rows
+    → slice_get (rows ++ more) at ≡ Some row → slice_get rows at ≡ Some row
+there_still [] more at row below is = absurd (let no : suc at ≤ 0 = below in omega (arith, no))
+there_still (x ∷ rows) more zero row below is = is
+there_still (x ∷ rows) more (suc at) row below is =
+    there_still rows more at row (omega (arith, below)) is
+
+-- each row of a book was looked at: a change that is noted isn't passed over, nor one behind them
+pub keeps_looked : (watch watch' : ChangeWatch) (b c : Book) → GoesOn b c
+    → watch'.rows_seen ≡ length b.rows
+    → (HasChange watch b → watch'.has_changes ≡ true) → KeepsChanges watch watch' c
+keeps_looked watch watch' b c on all noted later more (inl had) = inl (noted (inl had))
+keeps_looked watch watch' b c on all noted later more (inr from) =
+    by_place (nat_lt from.at (length b.rows)) refl
+  where
+    behind : GoesOn b later
+    behind = on_then b c later on more
+
+    by_place : (is_before : Bool) → nat_lt from.at (length b.rows) ≡ is_before
+        → HasChange watch' later
+    by_place true before = inl (noted (inr (record {
+      at = from.at;
+      row = from.row;
+      since = from.since;
+      there = there_still b.rows behind.more from.at from.row
+          (let below : from.at < length b.rows = grind (arith, nat_tests) in below)
+          (sym (ap (λ (r : List Row). slice_get r from.at) behind.rows) ∙ from.there);
+      changing = from.changing;
+    })))
+    by_place false behind_all = inr (record {
+      at = from.at;
+      row = from.row;
+      since = let above : length b.rows ≤ from.at = grind (arith, nat_tests) in
+          omega (arith, all, above);
+      there = from.there;
+      changing = from.changing;
+    })
+
+-- nothing was looked at
+pub keeps_same : (watch watch' : ChangeWatch) (b : Book) → watch' ≡ watch
+    → KeepsChanges watch watch' b
+keeps_same watch watch' b same later more has =
+    subst (λ (w : ChangeWatch). HasChange w later) (sym same) has
+
+-- .. and what is noted is so still
+pub keeps_alike : (watch watch' : ChangeWatch) (b : Book) → watch'.has_changes ≡ watch.has_changes
+    → watch'.rows_seen ≡ watch.rows_seen → KeepsChanges watch watch' b
+keeps_alike watch watch' b noted seen later more (inl had) = inl (noted ∙ had)
+keeps_alike watch watch' b noted seen later more (inr from) = inr (record {
+  at = from.at;
+  row = from.row;
+  since = let far = from.since in omega (arith, seen, far);
+  there = from.there;
+  changing = from.changing;
+})
+
+-- one thing after another
+pub keeps_then : (a b c : ChangeWatch) (s t : Book) → GoesOn s t → KeepsChanges a b s
+    → KeepsChanges b c t → KeepsChanges a c t
+keeps_then a b c s t on one two later more has =
+    two later more (one later (on_then s t later on more) has)
+
 -- ---- the same
 
 pub seen_same : (n o : ℕ) (s t : StationState) → t ≡ s → o ≡ n → HasSeen n s.book
@@ -176,6 +350,13 @@ pub seen_same : (n o : ℕ) (s t : StationState) → t ≡ s → o ≡ n → Has
 seen_same n o s t same is seen =
     subst (λ (u : StationState). HasSeen o u.book) (sym same)
     (subst (λ (i : ℕ). HasSeen i s.book) (sym is) seen)
+
+-- a change is noted, or still isn't looked at
+pub ruleset kept = (
+  keeps_same,
+  keeps_alike,
+  keeps_then,
+)
 
 pub ruleset seen = (
   seen_ended,
@@ -186,4 +367,5 @@ pub ruleset seen = (
   seen_room,
   seen_read,
   seen_same,
+  seen_all,
 )

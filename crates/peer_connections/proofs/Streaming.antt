@@ -1,7 +1,7 @@
 -- A peer is heard, and sent to, call after call.
 use Rattle.std.proofs.Common.{◌≡◌, ℕ, List, [], ◌∷◌, ◌++◌, Bool, true, false, drop, length, take}
 use Rattle.std.proofs.Common.{Option, Some, None, refl, sym, ap, subst, ◌∙◌, append_assoc}
-use Rattle.std.proofs.Common.{suc, take-append-drop, zero}
+use Rattle.std.proofs.Common.{arith, suc, take-append-drop, zero, ◌≤◌}
 use Rattle.std.specs.Prelude.{if◌then◌else◌}
 use Rattle.std.specs.Io.KnownBytes.{Appends, Consumes}
 use Rattle.site_book.specs.Book.{Book}
@@ -9,7 +9,7 @@ use Rattle.devices.proofs.KnownBytes.{Appends-none, Appends-then, Consumes-none}
 use Rattle.devices.proofs.KnownBytes.{Consumes-then}
 use Rattle.station.specs.Moves.{StationState, take_by, with_taken}
 use Rattle.station.specs.Peers.{peer_at}
-use Rattle.station.specs.Reads.{owed_at, owed_to}
+use Rattle.station.specs.Reads.{is_read_at, owed_at, owed_to}
 use Rattle.station.specs.Runs.{Move}
 use Rattle.station.specs.Sessions.{Session}
 use Rattle.station.proofs.Peers.{peer_at-same}
@@ -78,11 +78,12 @@ heard_ready key left left' s t same made goes = record {
 
 -- one read
 heard_read : (call : Call) (key : ℕ) (left left' : Option (List ℕ)) (s t : StoredState)
-    → HasRoomToHear s.station.book → HearsCall call key left left' s.station t.station
+    → HasRoomToHear s.station.book → is_read_at s.station key ≡ true
+    → HearsCall call key left left' s.station t.station
     → JournalGoesOn s.journal t.journal → HearsStream key left left' s t
-heard_read call key left left' s t room hears goes = record {
-  moves = reaches_read call key left left' s t room hears goes;
-  read = said_read call key left left' s t room hears goes;
+heard_read call key left left' s t room read hears goes = record {
+  moves = reaches_read call key left left' s t room read hears goes;
+  read = said_read call key left left' s t room read hears goes;
 }
 
 -- .. for which room was made
@@ -93,7 +94,7 @@ heard_with_room call key left left' s t hears goes =
     let ready = with_station hears.ready s in
     heard_then key left left left' s ready t
     (heard_ready key left left s ready refl hears.makes (goes_same s.journal s.journal refl))
-    (heard_read call key left left' ready t hears.room hears.hears goes)
+    (heard_read call key left left' ready t hears.room hears.of_read hears.hears goes)
 
 -- ---- what is sent
 
@@ -132,6 +133,24 @@ told_behind k n s =
     where_stored true is = is
     where_stored false is = none_behind n
 
+-- where each row is stored, what is owed may be told
+told_stored : (k : ℕ) (s : StoredState) → is_all_stored s ≡ true
+    → told_at s k ≡ owed_at s.station k
+told_stored k s all = ap (λ (b : Bool). if b then owed_at s.station k else []) all
+
+-- .. and where something may be told, each row is
+pub stored_by_told : (k n : ℕ) (s : StoredState) → n ≤ length (told_at s k) → (n ≡ 0 → ⊥)
+    → is_all_stored s ≡ true
+stored_by_told k n s within some = by_test (is_all_stored s) refl
+  where
+    by_test : (b : Bool) → is_all_stored s ≡ b → b ≡ true
+    by_test true is = refl
+    by_test false is =
+        let none : told_at s k ≡ [] =
+        ap (λ (c : Bool). if c then owed_at s.station k else []) is in
+        let few : n ≤ 0 = subst (λ (l : List ℕ). n ≤ length l) none within in
+        absurd (some (omega (arith, few)))
+
 -- nothing is sent
 pub sent_none : (key : ℕ) (got got' : Option (List ℕ)) (s t : StoredState) → got' ≡ got → t ≡ s
     → SendsStream key got got' s t
@@ -140,6 +159,7 @@ sent_none key got got' s t same stays = record {
   sent = [];
   written = subst (λ (u : Option (List ℕ)). Appends got u []) (sym same) (Appends-none got);
   rest = ap (λ (x : StoredState). told_at x key) (sym stays);
+  owed = ap (λ (x : StoredState). owed_at x.station key) (sym stays);
 }
 
 -- one write, and then more
@@ -151,6 +171,8 @@ sent_then key a b c s t u one two = record {
   written = Appends-then a b c one.sent two.sent one.written two.written;
   rest = one.rest ∙ ap (λ (rest : List ℕ). one.sent ++ rest) two.rest
       ∙ sym (append_assoc one.sent two.sent (told_at u key));
+  owed = one.owed ∙ ap (λ (rest : List ℕ). one.sent ++ rest) two.owed
+      ∙ sym (append_assoc one.sent two.sent (owed_at u.station key));
 }
 
 -- .. of the same connection
@@ -169,6 +191,12 @@ sent_written (Passed n) key got got' s t sends = record {
   rest = sym (take-append-drop n (told_at s key))
       ∙ ap (λ (rest : List ℕ). take n (told_at s key) ++ rest)
       (sym (ap (λ (x : StoredState). told_at x key) sends.1 ∙ told_behind key n s));
+  owed = sym (take-append-drop n (owed_at s.station key))
+      ∙ ap (λ (o : List ℕ). take n o ++ drop n (owed_at s.station key))
+      (sym (told_stored key s sends.2))
+      ∙ ap (λ (rest : List ℕ). take n (told_at s key) ++ rest)
+      (sym (ap (λ (x : StoredState). owed_at x.station key) sends.1
+      ∙ owed_behind key n s.station (peer_at s.station.peers key) refl));
 }
 sent_written Ended key got got' s t sends = absurd sends
 sent_written Interrupted key got got' s t sends = record {
@@ -176,18 +204,21 @@ sent_written Interrupted key got got' s t sends = record {
   sent = [];
   written = sends.0;
   rest = ap (λ (x : StoredState). told_at x key) (sym sends.1);
+  owed = ap (λ (x : StoredState). owed_at x.station key) (sym sends.1);
 }
 sent_written Waits key got got' s t sends = record {
   moves = reaches_written Waits key got got' s t sends;
   sent = [];
   written = sends.0;
   rest = ap (λ (x : StoredState). told_at x key) (sym sends.1);
+  owed = ap (λ (x : StoredState). owed_at x.station key) (sym sends.1);
 }
 sent_written Failed key got got' s t sends = record {
   moves = reaches_written Failed key got got' s t sends;
   sent = [];
   written = sends.0;
   rest = ap (λ (x : StoredState). told_at x key) (sym sends.1);
+  owed = ap (λ (x : StoredState). owed_at x.station key) (sym sends.1);
 }
 
 -- ---- the moves

@@ -8,7 +8,7 @@ use Rattle.station.specs.declared.sizes.TheConstants.{FREE_PLACES}
 use Rattle.station.specs.Moves.{StationState, without_peer}
 use Rattle.station.specs.Peers.{peer_at}
 use Rattle.station.specs.Places.{is_place_at}
-use Rattle.station.specs.Reads.{end_at, node_at}
+use Rattle.station.specs.Reads.{end_at, is_read_at, node_at}
 use Rattle.station.specs.Runs.{Arrives, EndsRelease, Finishes, Forgets, Leaves, Loses, Move, Says}
 use Rattle.station.specs.Runs.{Takes}
 use Rattle.station.specs.Sessions.{Session}
@@ -49,11 +49,11 @@ is_place_of (Some door) key = is_place_at door key
 
 -- ---- what is done
 
--- The peer of this key is heard: its octets are, or that they have ended. For room the rows in
--- memory may be forgotten.
+-- The peer of this key, which is read from, is heard: its octets are, or that they have ended. For
+-- room the rows in memory may be forgotten.
 abbrev pub IsHearing : ℕ → Move → StationState → Type 0
-IsHearing k (Says memory j octets) s = j ≡ k
-IsHearing k (Finishes j) s = j ≡ k
+IsHearing k (Says memory j octets) s = (j ≡ k) × (is_read_at s j ≡ true)
+IsHearing k (Finishes j) s = (j ≡ k) × (is_read_at s j ≡ true)
 IsHearing k Forgets s = ⊤
 IsHearing k m s = ⊥
 
@@ -81,6 +81,11 @@ abbrev pub IsDismissal : Option ℕ → Move → StationState → Type 0
 IsDismissal door (Leaves j) s = (is_place_of door j ≡ true) × (is_served_at s j ≡ false)
 IsDismissal door m s = ⊥
 
+-- a peer arrives at this door, or over TCP
+abbrev pub IsArrival : Option ℕ → Move → StationState → Type 0
+IsArrival door (Arrives key at) s = at ≡ door
+IsArrival door m s = ⊥
+
 -- A peer comes at this door, or over TCP: it arrives there, and peers leave that aren't served, of
 -- that door or over TCP.
 abbrev pub IsWelcome : Option ℕ → Move → StationState → Type 0
@@ -94,6 +99,13 @@ abbrev pub IsSameOrLeft : ℕ → StoredState → StoredState → Type 0
 IsSameOrLeft key s t = (t ≡ s) ⊎ (t ≡ with_station (without_peer key s.station) s)
 
 -- ---- what is done for all of them
+
+-- peers that are read from are heard
+abbrev pub IsHeard : Move → StationState → Type 0
+IsHeard (Says memory j octets) s = is_read_at s j ≡ true
+IsHeard (Finishes j) s = is_read_at s j ≡ true
+IsHeard Forgets s = ⊤
+IsHeard m s = ⊥
 
 -- connections follow their sessions: peers take what they are owed, sessions end, and peers leave
 -- whose sessions have ended
@@ -110,10 +122,11 @@ IsEnding (Finishes j) s = ⊤
 IsEnding (Leaves j) s = ⊤
 IsEnding m s = ⊥
 
--- time passes: nobody comes, and nobody is heard
+-- time passes: nobody comes, is heard, or is sent anything
 abbrev pub IsPassing : Move → StationState → Type 0
 IsPassing (Arrives j door) s = ⊥
 IsPassing (Says memory j octets) s = ⊥
+IsPassing (Takes j n) s = ⊥
 IsPassing m s = ⊤
 
 -- the station acts by itself, for which the rows in memory may be forgotten

@@ -1,6 +1,8 @@
 pub mod Allowed
 pub mod Calls
+pub mod Coming
 pub mod Due
+pub mod Fed
 pub mod Links
 pub mod Reaches
 pub mod Sending

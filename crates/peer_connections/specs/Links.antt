@@ -1,6 +1,6 @@
 -- The connections of peers, by their keys, and the peers that have them.
 use Rattle.std.specs.Prelude.{◌≡◌, ◌≢◌, ℕ, Bool, true, false, List, length, Option, Some, None}
-use Rattle.std.specs.Prelude.{get_or, is_some}
+use Rattle.std.specs.Prelude.{◌⊎◌, get_or, is_some}
 use Rattle.station.specs.Peers.{peer_at}
 use Rattle.station.specs.Sessions.{Session}
 
@@ -8,6 +8,14 @@ use Rattle.station.specs.Sessions.{Session}
 abbrev pub OthersStay : {L : Type 0} → ℕ → List (Option L) → List (Option L) → Type 0
 OthersStay key old new =
     (length new ≡ length old) × ((k : ℕ) → k ≢ key → get_or new k None ≡ get_or old k None)
+
+-- the connection of this key stays as it is, or is there no more
+abbrev pub StaysOrGoes : {L : Type 0} → List (Option L) → List (Option L) → ℕ → Type 0
+StaysOrGoes old new k = (get_or new k None ≡ get_or old k None) ⊎ (get_or new k None ≡ None)
+
+-- .. that of each key
+abbrev pub StayOrGo : {L : Type 0} → List (Option L) → List (Option L) → Type 0
+StayOrGo old new = (k : ℕ) → StaysOrGoes old new k
 
 -- ---- who is there
 

@@ -1,6 +1,6 @@
 -- Who is to be sent what it is owed.
 use Rattle.std.specs.Prelude.{◌≡◌, ◌≢◌, ◌≤◌, ◌⊎◌, ℕ, Bool, true, false, List, [], Option, Some}
-use Rattle.std.specs.Prelude.{None, get_or, length, slice_get}
+use Rattle.std.specs.Prelude.{◌++◌, None, get_or, length, slice_get}
 use Rattle.site_base.specs.declared.row.Row.{Row}
 use Rattle.site_book.specs.Book.{Book}
 use Rattle.site_book.specs.Changes.{is_changing}
@@ -30,6 +30,17 @@ pub record HasChangeFrom (place : ℕ) (b : Book) : Type 0 where
 -- .. was noted, or wasn't looked at yet
 abbrev pub HasChange : ChangeWatch → Book → Type 0
 HasChange watch b = (watch.has_changes ≡ true) ⊎ HasChangeFrom watch.rows_seen b
+
+-- the rows of a book, and perhaps more
+pub record GoesOn (b later : Book) : Type 0 where
+  pub more : List Row
+  pub rows : later.rows ≡ b.rows ++ more
+
+-- Whatever rows come behind those of a book: a row that a dispenser is told of, and that was noted
+-- or wasn't looked at yet, is so still.
+abbrev pub KeepsChanges : ChangeWatch → ChangeWatch → Book → Type 0
+KeepsChanges watch watch' b =
+    (later : Book) → GoesOn b later → HasChange watch later → HasChange watch' later
 
 abbrev pub is_full : {S : Type 0} → Option (Link S) → Bool
 is_full None = false
@@ -78,3 +89,10 @@ IsSentTo key s links = (told_at s key ≡ []) ⊎ StopsAt (get_or links key None
 -- .. each peer of these keys
 abbrev pub AreSentTo : {S : Type 0} → List ℕ → StoredState → List (Option (Link S)) → Type 0
 AreSentTo due s links = (k : ℕ) → is_due due k ≡ true → IsSentTo k s links
+
+-- Each peer that was owed octets may be told nothing more, or its connection has stopped, or took
+-- none for then.
+abbrev pub OwedAreSentTo : {S : Type 0} → StationState → List (Option (Link S)) → StoredState
+    → List (Option (Link S)) → Type 0
+OwedAreSentTo s links later links' =
+    (k : ℕ) → owed_at s k ≢ [] → (IsSentTo k later links') ⊎ (is_full_at links k ≡ true)

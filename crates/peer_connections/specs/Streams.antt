@@ -2,11 +2,12 @@
 -- told.
 use Rattle.std.specs.Prelude.{◌≡◌, ◌⊎◌, ℕ, List, [], ◌∷◌, ◌++◌, Option, Some, None, get_or, true}
 use Rattle.std.specs.Io.KnownBytes.{Appends, Consumes}
+use Rattle.station.specs.Reads.{owed_at}
 use Rattle.station.specs.Runs.{Move, Says}
 use Rattle.journal.specs.Stored.{StoredState, told_at}
 use Rattle.peer_connections.specs.declared.link.Link.{Link}
 use Rattle.peer_connections.specs.Allowed.{IsClosing, IsHearing, IsSending}
-use Rattle.peer_connections.specs.Links.{has_link}
+use Rattle.peer_connections.specs.Links.{OthersStay, has_link}
 use Rattle.peer_connections.specs.Reaches.{ReachesBy}
 use Rattle.peer_connections.specs.Sending.{FailsAt, IsLetGo}
 
@@ -26,14 +27,15 @@ pub record HearsStream (key : ℕ) (left left' : Option (List ℕ)) (earlier lat
   pub moves : ReachesBy (IsHearing key) earlier later
   pub read : Consumes left left' (said_in moves.moves)
 
--- The peer of this key is sent to: its connection got the front of what it may be told, and it may
--- be told the rest.
+-- The peer of this key is sent to: its connection got the front of what it is owed, and may be told,
+-- and it is owed the rest still, and may be told it.
 pub record SendsStream (key : ℕ) (got got' : Option (List ℕ)) (earlier later : StoredState)
     : Type 0 where
   pub moves : ReachesBy (IsSending key) earlier later
   pub sent : List ℕ
   pub written : Appends got got' sent
   pub rest : told_at earlier key ≡ sent ++ told_at later key
+  pub owed : owed_at earlier.station key ≡ sent ++ owed_at later.station key
 
 -- ---- by a key's own connection
 
@@ -47,11 +49,23 @@ abbrev pub known_at : {S : Type 0} → (S → Option (List ℕ)) → List (Optio
     → Option (List ℕ)
 known_at known links k = known_of known (get_or links k None)
 
--- a key's connection, if it is still there, got no more
-abbrev pub GetsNoMore : {S : Type 0} → (S → Option (List ℕ)) → ℕ → List (Option (Link S))
+-- .. of each connection it is what it was
+abbrev pub StayKnown : {S : Type 0} → (S → Option (List ℕ)) → List (Option (Link S))
     → List (Option (Link S)) → Type 0
-GetsNoMore got key links links' =
-    has_link links' key ≡ true → known_at got links' key ≡ known_at got links key
+StayKnown known links links' = (k : ℕ) → known_at known links' k ≡ known_at known links k
+
+-- A key's connection, if it is still there, is the one that was, and what is known of it stays:
+-- nothing is read of it, say, or it got no more.
+abbrev pub StaysKnownAt : {S : Type 0} → (S → Option (List ℕ)) → ℕ → List (Option (Link S))
+    → List (Option (Link S)) → Type 0
+StaysKnownAt known key links links' =
+    has_link links' key ≡ true
+    → (has_link links key ≡ true) × (known_at known links' key ≡ known_at known links key)
+
+-- .. that of each key
+abbrev pub AllStayKnown : {S : Type 0} → (S → Option (List ℕ)) → List (Option (Link S))
+    → List (Option (Link S)) → Type 0
+AllStayKnown known links links' = (k : ℕ) → StaysKnownAt known k links links'
 
 -- The peer of this key is sent to, by its own connection. Then that follows its session, and gets
 -- no more. The peer leaves if the connection has failed, or if it is let go.
@@ -59,14 +73,27 @@ pub record SendsAndFollows {S : Type 0} (got : S → Option (List ℕ)) (key : �
     (links links' : List (Option (Link S))) (earlier later : StoredState) : Type 0 where
   pub sent_to : StoredState
   pub between : List (Option (Link S))
+  pub others : OthersStay key links between
   pub sends : SendsStream key (known_at got links key) (known_at got between key) earlier sent_to
   pub follows : ReachesBy (IsClosing key) sent_to later
-  pub no_more : GetsNoMore got key between links'
+  pub no_more : StaysKnownAt got key between links'
   pub there : has_link links' key ≡ true → has_link links key ≡ true
   pub stays : has_link links' key ≡ true → later ≡ sent_to
   pub let_go : FailsAt (get_or between key None) ⊎ IsLetGo key sent_to.station between links'
 
 -- ---- of all connections
+
+-- The connection of a key is the one that was: what it got stays, and perhaps more comes behind it.
+pub record GetsMore {S : Type 0} (got : S → Option (List ℕ)) (key : ℕ)
+    (links links' : List (Option (Link S))) : Type 0 where
+  pub was : has_link links key ≡ true
+  pub sent : List ℕ
+  pub written : Appends (known_at got links key) (known_at got links' key) sent
+
+-- .. that of each key, if it is still there
+abbrev pub AllGetMore : {S : Type 0} → (S → Option (List ℕ)) → List (Option (Link S))
+    → List (Option (Link S)) → Type 0
+AllGetMore got links links' = (k : ℕ) → has_link links' k ≡ true → GetsMore got k links links'
 
 -- What the connection of a key got is the front of what its peer might be told, and it may still be
 -- told the rest.

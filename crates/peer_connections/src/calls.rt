@@ -4,11 +4,14 @@
 ghost use Rattle.std.specs.Prelude.{◌≡◌, ◌<◌, ◌≤◌, IfOk, OnErr, length, true};
 ghost use Rattle.station.specs.declared.sizes.TheConstants.{HEARD_OCTETS};
 ghost use Rattle.station.specs.Reads.{is_read_at};
-ghost use Rattle.journal.specs.Stored.{JournalGoesOn};
+ghost use Rattle.journal.specs.Stored.{JournalGoesOn, time_of};
 ghost use Rattle.peer_connections.specs.Calls.{HearsCall, HearsWithRoom, SendsCall};
-ghost use Rattle.peer_connections.specs.Sending.{HasSeen};
+ghost use Rattle.peer_connections.specs.Fed.{ReadsNew};
+ghost use Rattle.peer_connections.specs.Sending.{HasSeen, KeepsChanges};
 
 use crate::change_watch::ChangeWatch;
+use crate::row_room::make_room;
+use crate::session_over::SessionOver;
 use connection_calls::Call;
 use journal::{Disk, DiskFault, StoredStation};
 use std::io::{Read, Write};
@@ -61,20 +64,24 @@ pub(crate) fn read_with_room<R: Read, D: Disk>(
     requires few { length piece.old ≤ HEARD_OCTETS }
     requires read { is_read_at stored.old.station key ≡ true }
     requires seen { HasSeen changes.old.rows_seen stored.old.station.book }
+    requires fed { HasSeen changes.old.rows_fed stored.old.station.book }
     ensures hears { IfOk result (λ call. HearsWithRoom call key (R.remaining reader.old)
         (R.remaining reader.new) stored.old.station stored.new.station) }
     ensures err { OnErr result (stored.new.station ≡ stored.old.station) }
     ensures unread { OnErr result (reader.new ≡ reader.old) }
     ensures journal { JournalGoesOn stored.old.journal stored.new.journal }
     ensures seen { HasSeen changes.new.rows_seen stored.new.station.book }
+    ensures fed { HasSeen changes.new.rows_fed stored.new.station.book }
+    ensures noted { KeepsChanges changes.old changes.new stored.new.station.book }
+    ensures told { ReadsNew (time_of stored.new.journal) stored.old.station.book changes.old
+        changes.new }
 {
-    changes.look(stored.book());
-    stored.make_room()?;
+    make_room(stored, changes)?;
     Ok(read_once(reader, stored, key, piece))
 }
 
-/// Reads once from a connection what nobody hears.
-pub(crate) fn read_ignored<R: Read>(reader: &mut R, piece: &mut [u8]) -> Call {
+/// Reads once from a connection, whose session is over, what nobody hears.
+pub(crate) fn read_ignored<R: Read>(reader: &mut R, piece: &mut [u8], _over: SessionOver) -> Call {
     match reader.read(piece) {
         Ok(0) => Call::Ended,
         Ok(n) => Call::Passed(n),

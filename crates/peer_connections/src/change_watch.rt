@@ -1,15 +1,23 @@
-//! Rows that dispensers are told of.
+//! Rows that others are told of: dispensers, and the feed's peers.
 
-ghost use Rattle.std.specs.Prelude.{◌≡◌, ◌≤◌, ◌||◌, IfSome, false, length, slice_get, true};
+ghost use Rattle.std.specs.Prelude.{◌≡◌, ◌≤◌, ◌||◌, IfSome, OnOk, false, length, slice_get};
+ghost use Rattle.std.specs.Prelude.{Some, option_copied, true};
+ghost use Rattle.chapters.specs.RowText.{kept_behind};
 ghost use Rattle.site_book.specs.Changes.{is_changing};
+ghost use Rattle.journal.specs.Stored.{is_all_stored, time_of};
+ghost use Rattle.peer_connections.specs.Fed.{AreRead, BeginsChapter, with_rows};
 ghost use Rattle.peer_connections.specs.Sending.{HasChange, HasSeen};
 
-use site_base::{Event, FpNo, PointSet, Row};
+use crate::fed_rows::FedRows;
+use journal::{Disk, StoredStation};
+use site_base::{Event, FpNo, NoMemory, PointSet, Row};
 use site_book::{SiteBook, is_changing};
+use stamps::Stamp;
 
-/// Watches a book for rows that a dispenser may be told of. It has to look at them before the book
-/// forgets them.
-#[derive(Debug, Drop)]
+/// Watches a book for rows that a dispenser may be told of, and for those that the feed's peers are
+/// told. It has to look at them before the book forgets them; the feed reads them once they are
+/// stored.
+#[derive(Drop)]
 pub struct ChangeWatch {
     /// So many rows were looked at.
     rows_seen: u64,
@@ -19,18 +27,81 @@ pub struct ChangeWatch {
     watches_releases: bool,
     /// The points that were released since this was asked last.
     released: PointSet,
+    /// So many rows were stored, and read by the feed, if there is one.
+    rows_fed: u64,
+    /// What the feed's peers are told, if there is a feed.
+    fed: Option<FedRows>,
 }
 
 impl ChangeWatch {
     /// Watches the rows behind those that the book has; for releases too, if that is wanted.
     pub fn new(book: &SiteBook, watches_releases: bool) -> ChangeWatch
-        ensures { HasSeen result.rows_seen book.now }
+        ensures seen { HasSeen result.rows_seen book.now }
+        ensures fed { HasSeen result.rows_fed book.now }
+        ensures all { result.rows_fed ≡ length book.now.rows }
     {
         ChangeWatch {
             rows_seen: book.len(),
             has_changes: false,
             watches_releases,
             released: PointSet::new(),
+            rows_fed: book.len(),
+            fed: None,
+        }
+    }
+
+    /// There is a feed: its peers are told these rows, and those that are stored from now on.
+    pub fn begin_feed(&mut self, fed: FedRows)
+        ensures fed { self.new.fed ≡ Some fed }
+        ensures seen { self.new.rows_seen ≡ self.old.rows_seen }
+        ensures read { self.new.rows_fed ≡ self.old.rows_fed }
+        ensures changes { self.new.has_changes ≡ self.old.has_changes }
+    {
+        self.fed = Some(fed);
+    }
+
+    /// What the feed's peers are told, if there is a feed.
+    pub fn fed(&self) -> Option<&FedRows>
+        ensures { option_copied result ≡ self.now.fed }
+    {
+        self.fed.as_ref()
+    }
+
+    /// Each row is stored, and none that wasn't yet was forgotten: the feed, if there is one, reads
+    /// those, with the last time that the history tells. Where memory is wanting the feed ends.
+    pub fn read_stored<D: Disk>(&mut self, stored: &StoredStation<D>)
+        requires stored { is_all_stored stored.now ≡ true }
+        requires fed { HasSeen self.old.rows_fed stored.now.station.book }
+        ensures fed { AreRead (time_of stored.now.journal)
+            (kept_behind self.old.rows_fed stored.now.station.book.rows) self.old.fed
+            self.new.fed }
+        ensures all { self.new.rows_fed ≡ length stored.now.station.book.rows }
+        ensures seen { self.new.rows_seen ≡ self.old.rows_seen }
+        ensures changes { self.new.has_changes ≡ self.old.has_changes }
+    {
+        let first = self.rows_fed;
+        self.rows_fed = stored.book().len();
+        let Some(fed) = &mut self.fed else {
+            return;
+        };
+        if read_rows(fed, stored.book(), first, &stored.last_time()).is_err() {
+            self.fed = None;
+        }
+    }
+
+    /// The history's next chapter begins behind the rows that were read. Where memory is wanting
+    /// the feed ends.
+    pub fn begin_chapter(&mut self)
+        ensures fed { BeginsChapter self.old.fed self.new.fed }
+        ensures seen { self.new.rows_seen ≡ self.old.rows_seen }
+        ensures read { self.new.rows_fed ≡ self.old.rows_fed }
+        ensures changes { self.new.has_changes ≡ self.old.has_changes }
+    {
+        let Some(fed) = &mut self.fed else {
+            return;
+        };
+        if fed.begin_chapter().is_err() {
+            self.fed = None;
         }
     }
 
@@ -40,6 +111,8 @@ impl ChangeWatch {
         requires { HasSeen self.old.rows_seen book.now }
         ensures noted { HasChange self.old book.now → self.new.has_changes ≡ true }
         ensures all { self.new.rows_seen ≡ length book.now.rows }
+        ensures read { self.new.rows_fed ≡ self.old.rows_fed }
+        ensures fed { self.new.fed ≡ self.old.fed }
     {
         let first = self.rows_seen;
         self.rows_seen = book.len();
@@ -55,6 +128,8 @@ impl ChangeWatch {
     fn look_at(&mut self, book: &SiteBook, place: u64)
         ensures had { self.old.has_changes ≡ true → self.new.has_changes ≡ true }
         ensures seen { self.new.rows_seen ≡ self.old.rows_seen }
+        ensures read { self.new.rows_fed ≡ self.old.rows_fed }
+        ensures fed { self.new.fed ≡ self.old.fed }
         ensures noted { book.now.forgotten ≤ place → IfSome (slice_get book.now.rows place)
             (λ row. is_changing row ≡ true → self.new.has_changes ≡ true) }
     {
@@ -67,6 +142,8 @@ impl ChangeWatch {
     fn note(&mut self, row: &Row)
         ensures changes { self.new.has_changes ≡ (self.old.has_changes || is_changing row.now) }
         ensures seen { self.new.rows_seen ≡ self.old.rows_seen }
+        ensures read { self.new.rows_fed ≡ self.old.rows_fed }
+        ensures fed { self.new.fed ≡ self.old.fed }
     {
         if is_changing(row) {
             self.has_changes = true;
@@ -80,6 +157,8 @@ impl ChangeWatch {
     pub fn take_released(&mut self) -> PointSet
         ensures changes { self.new.has_changes ≡ self.old.has_changes }
         ensures seen { self.new.rows_seen ≡ self.old.rows_seen }
+        ensures read { self.new.rows_fed ≡ self.old.rows_fed }
+        ensures fed { self.new.fed ≡ self.old.fed }
     {
         let released = self.released;
         self.released = PointSet::new();
@@ -91,11 +170,35 @@ impl ChangeWatch {
         ensures had { result ≡ self.old.has_changes }
         ensures none { self.new.has_changes ≡ false }
         ensures seen { self.new.rows_seen ≡ self.old.rows_seen }
+        ensures read { self.new.rows_fed ≡ self.old.rows_fed }
+        ensures fed { self.new.fed ≡ self.old.fed }
     {
         let had_changes = self.has_changes;
         self.has_changes = false;
         had_changes
     }
+}
+
+/// The rows of a book from this place on, of which none is forgotten, are read, with this time.
+/// After `NoMemory` no further row can be read.
+fn read_rows(
+    fed: &mut FedRows,
+    book: &SiteBook,
+    first: u64,
+    time: &Option<Stamp>,
+) -> Result<(), NoMemory>
+    requires { HasSeen first book.now }
+    ensures rows { OnOk result
+        (fed.new.rows ≡ with_rows time.now (kept_behind first book.now.rows) fed.old.rows) }
+    ensures starts { OnOk result (fed.new.starts ≡ fed.old.starts) }
+{
+    for place in first..book.len() {
+        let Some(row) = book.row(place) else {
+            unreachable!();
+        };
+        fed.read(time, &row)?;
+    }
+    Ok(())
 }
 
 /// The point that an event releases, if it does.

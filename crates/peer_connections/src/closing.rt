@@ -8,7 +8,7 @@ ghost use Rattle.peer_connections.specs.Allowed.{IsClosing, lasts_at};
 ghost use Rattle.peer_connections.specs.Links.{OthersStay, has_link};
 ghost use Rattle.peer_connections.specs.Reaches.{ReachesBy};
 ghost use Rattle.peer_connections.specs.Sending.{IsLetGo, IsSentTo};
-ghost use Rattle.peer_connections.specs.Streams.{GetsNoMore};
+ghost use Rattle.peer_connections.specs.Streams.{StaysKnownAt};
 
 use crate::connections::Connections;
 use crate::link::Channel;
@@ -28,7 +28,8 @@ impl<D: Disk, S: PeerSocket> Connections<D, S> {
         ensures others { OthersStay key self.old.links.items self.new.links.items }
         ensures sent { IsSentTo key self.old.stored self.old.links.items
             → IsSentTo key self.new.stored self.new.links.items }
-        ensures got { GetsNoMore S.contents key self.old.links.items self.new.links.items }
+        ensures got { StaysKnownAt S.contents key self.old.links.items self.new.links.items }
+        ensures changes { self.new.changes ≡ self.old.changes }
         ensures due { self.new.due ≡ self.old.due }
     {
         if !self.note_closing(key, now) {
@@ -53,7 +54,9 @@ impl<D: Disk, S: PeerSocket> Connections<D, S> {
         ensures others { OthersStay key self.old.links.items self.new.links.items }
         ensures sent { IsSentTo key self.old.stored self.old.links.items
             → IsSentTo key self.new.stored self.new.links.items }
-        ensures got { GetsNoMore S.contents key self.old.links.items self.new.links.items }
+        ensures unread { StaysKnownAt S.remaining key self.old.links.items self.new.links.items }
+        ensures got { StaysKnownAt S.contents key self.old.links.items self.new.links.items }
+        ensures changes { self.new.changes ≡ self.old.changes }
         ensures due { self.new.due ≡ self.old.due }
     {
         if let Some(slot) = self.links.get_mut(key) {
@@ -84,7 +87,8 @@ impl<D: Disk, S: PeerSocket> Connections<D, S> {
             self.new.links.items }
         ensures stays { has_link self.new.links.items key ≡ true
             → self.new.stored ≡ self.old.stored }
-        ensures got { GetsNoMore S.contents key self.old.links.items self.new.links.items }
+        ensures got { StaysKnownAt S.contents key self.old.links.items self.new.links.items }
+        ensures changes { self.new.changes ≡ self.old.changes }
         ensures due { self.new.due ≡ self.old.due }
     {
         if end == PeerEnd::Behind {
@@ -102,16 +106,18 @@ impl<D: Disk, S: PeerSocket> Connections<D, S> {
     /// A peer is told that nothing more will come. Can it only take, or nothing at all?
     #[tactic(auto, using(crate::proofs::Sent::sent_to, crate::proofs::Known::known))]
     fn shut(&mut self, key: usize) -> bool
+        requires { lasts_at self.old.stored.station key ≡ false }
         ensures stored { self.new.stored ≡ self.old.stored }
         ensures others { OthersStay key self.old.links.items self.new.links.items }
         ensures sent { IsSentTo key self.old.stored self.old.links.items
             → IsSentTo key self.new.stored self.new.links.items }
-        ensures got { GetsNoMore S.contents key self.old.links.items self.new.links.items }
+        ensures got { StaysKnownAt S.contents key self.old.links.items self.new.links.items }
+        ensures changes { self.new.changes ≡ self.old.changes }
         ensures due { self.new.due ≡ self.old.due }
     {
         if let Some(slot) = self.links.get_mut(key) {
             if let Some(link) = slot {
-                link.shut();
+                link.shut(&self.stored, key);
                 return link.channel != Channel::Open;
             }
         }
@@ -123,8 +129,11 @@ impl<D: Disk, S: PeerSocket> Connections<D, S> {
     pub(crate) fn remove(&mut self, key: usize)
         ensures left { self.new.stored
             ≡ with_station (without_peer key self.old.stored.station) self.old.stored }
+        ensures gone { has_link self.new.links.items key ≡ false }
         ensures others { OthersStay key self.old.links.items self.new.links.items }
-        ensures got { GetsNoMore S.contents key self.old.links.items self.new.links.items }
+        ensures unread { StaysKnownAt S.remaining key self.old.links.items self.new.links.items }
+        ensures got { StaysKnownAt S.contents key self.old.links.items self.new.links.items }
+        ensures changes { self.new.changes ≡ self.old.changes }
         ensures due { self.new.due ≡ self.old.due }
     {
         self.stored.leave(key);

@@ -1,15 +1,19 @@
 //! The connections of all peers, and the station that they speak with.
 
-ghost use Rattle.std.specs.Prelude.{◌≡◌, ℕ, false, length, IfOk, IfSome, OnOk, is_some, true};
+ghost use Rattle.std.specs.Prelude.{◌≡◌, ℕ, false, length, IfOk, IfSome, OnErr, OnOk, Some};
+ghost use Rattle.std.specs.Prelude.{is_some, option_copied, true};
+ghost use Rattle.chapters.specs.RowText.{kept_behind};
 ghost use Rattle.site_book.specs.Unpaid.{unpaid_sales};
 ghost use Rattle.station.specs.declared.sizes.TheConstants.{HEARD_OCTETS};
 ghost use Rattle.station.specs.Runs.{opening_station};
-ghost use Rattle.journal.specs.Stored.{JournalGoesOn, is_all_stored, since_of};
+ghost use Rattle.journal.specs.Stored.{JournalGoesOn, is_all_stored, since_of, time_of};
+ghost use Rattle.peer_connections.specs.Fed.{AreRead};
 ghost use Rattle.peer_connections.specs.Links.{ArePaired, has_link};
-ghost use Rattle.peer_connections.specs.Sending.{HasSeen};
+ghost use Rattle.peer_connections.specs.Sending.{HasSeen, KeepsChanges};
 
 use crate::change_watch::ChangeWatch;
 use crate::due_list::DueList;
+use crate::fed_rows::FedRows;
 use crate::link::Link;
 use crate::peer_stream::PeerSocket;
 use crate::shift_warning::warn_of_last_shifts;
@@ -55,6 +59,7 @@ pub struct Connections<D: Disk, S: PeerSocket> {
     ghost size: { length piece.items ≡ HEARD_OCTETS },
     ghost paired: { ArePaired links.items stored.station.peers },
     ghost seen: { HasSeen changes.rows_seen stored.station.book },
+    ghost fed: { HasSeen changes.rows_fed stored.station.book },
 }
 
 impl<D: Disk, S: PeerSocket> Connections<D, S> {
@@ -106,11 +111,33 @@ impl<D: Disk, S: PeerSocket> Connections<D, S> {
         }
     }
 
+    /// There is a feed: its peers are told these rows, those of the station's history so far, and
+    /// each that is stored from now on.
+    #[tactic(auto, using(crate::proofs::Pairing::paired))]
+    pub fn begin_feed(&mut self, fed: FedRows)
+        ensures fed { self.new.changes.fed ≡ Some fed }
+        ensures stored { self.new.stored ≡ self.old.stored }
+        ensures links { self.new.links ≡ self.old.links }
+        ensures due { self.new.due ≡ self.old.due }
+    {
+        self.changes.begin_feed(fed);
+    }
+
+    /// What the feed's peers are told, if there is a feed.
+    pub fn fed_rows(&self) -> Option<&FedRows>
+        ensures { option_copied result ≡ self.now.changes.fed }
+    {
+        self.changes.fed()
+    }
+
     /// Looks up which transactions of the station are unpaid.
     #[tactic(auto, using(crate::proofs::Pairing::paired))]
     pub fn read_unpaid(&mut self) -> Result<(), NoMemory>
         ensures station { self.new.stored.station ≡ self.old.stored.station }
         ensures journal { self.new.stored.journal ≡ self.old.stored.journal }
+        ensures links { self.new.links ≡ self.old.links }
+        ensures changes { self.new.changes ≡ self.old.changes }
+        ensures due { self.new.due ≡ self.old.due }
         ensures unpaid { OnOk result (self.new.stored.unpaid.sales
             ≡ unpaid_sales self.new.stored.station.book) }
     {
@@ -146,23 +173,33 @@ impl<D: Disk, S: PeerSocket> Connections<D, S> {
     }
 
     /// Stores each row that isn't stored yet: its peers may be told then.
-    #[tactic(auto, using(crate::proofs::Reaching::moved, crate::proofs::Pairing::paired))]
+    #[tactic(auto, using(crate::proofs::Reaching::moved, crate::proofs::Pairing::paired, crate::proofs::Seeing::kept))]
     pub(crate) fn store(&mut self) -> Result<(), DiskFault>
         ensures journal { JournalGoesOn self.old.stored.journal self.new.stored.journal }
         ensures station { self.new.stored.station ≡ self.old.stored.station }
         ensures stored { OnOk result (is_all_stored self.new.stored ≡ true) }
+        ensures fed { OnOk result (AreRead (time_of self.new.stored.journal)
+            (kept_behind self.old.changes.rows_fed self.new.stored.station.book.rows)
+            self.old.changes.fed self.new.changes.fed) }
+        ensures unfed { OnErr result (self.new.changes ≡ self.old.changes) }
+        ensures noted { KeepsChanges self.old.changes self.new.changes
+            self.new.stored.station.book }
         ensures links { self.new.links ≡ self.old.links }
         ensures due { self.new.due ≡ self.old.due }
     {
-        self.stored.store()
+        self.stored.store()?;
+        self.changes.read_stored(&self.stored);
+        Ok(())
     }
 
     /// Stores each row that isn't stored yet. Then the history's chapter ends, if it is over.
-    #[tactic(auto, using(crate::proofs::Reaching::moved))]
+    #[tactic(auto, using(crate::proofs::Reaching::moved, crate::proofs::Seeing::kept))]
     pub(crate) fn store_and_end<E: Eprint>(&mut self, rt: &E) -> Result<(), DiskFault>
         ensures journal { JournalGoesOn self.old.stored.journal self.new.stored.journal }
         ensures station { self.new.stored.station ≡ self.old.stored.station }
         ensures stored { OnOk result (is_all_stored self.new.stored ≡ true) }
+        ensures noted { KeepsChanges self.old.changes self.new.changes
+            self.new.stored.station.book }
         ensures links { self.new.links ≡ self.old.links }
         ensures due { self.new.due ≡ self.old.due }
     {
@@ -172,18 +209,23 @@ impl<D: Disk, S: PeerSocket> Connections<D, S> {
 
     /// Each row is stored: the history's chapter ends, if it is over. Where there can't be a next
     /// one now it goes on, which is said once.
-    #[tactic(auto, using(crate::proofs::Pairing::paired))]
+    #[tactic(auto, using(crate::proofs::Pairing::paired, crate::proofs::Seeing::kept))]
     fn end_chapter<E: Eprint>(&mut self, rt: &E) -> Result<(), DiskFault>
         requires { is_all_stored self.old.stored ≡ true }
         ensures station { self.new.stored.station ≡ self.old.stored.station }
         ensures journal { JournalGoesOn self.old.stored.journal self.new.stored.journal }
         ensures stored { is_all_stored self.new.stored ≡ true }
+        ensures noted { KeepsChanges self.old.changes self.new.changes
+            self.new.stored.station.book }
         ensures links { self.new.links ≡ self.old.links }
         ensures due { self.new.due ≡ self.old.due }
     {
         match self.stored.end_chapter_if_over()? {
             ChapterEnd::NotDue => return Ok(()),
-            ChapterEnd::Ended => self.has_told_refused = false,
+            ChapterEnd::Ended => {
+                self.has_told_refused = false;
+                self.changes.begin_chapter();
+            }
             ChapterEnd::Refused => {
                 if self.has_told_refused {
                     return Ok(());
@@ -204,6 +246,8 @@ impl<D: Disk, S: PeerSocket> Connections<D, S> {
         ensures station { self.new.stored.station ≡ self.old.stored.station }
         ensures stored { is_all_stored self.new.stored ≡ is_all_stored self.old.stored }
         ensures clock { IfSome self.new.stored.journal (λ j. j.clock ≡ clock) }
+        ensures links { self.new.links ≡ self.old.links }
+        ensures changes { self.new.changes ≡ self.old.changes }
         ensures due { self.new.due ≡ self.old.due }
     {
         self.note_round(&clock, now);
@@ -219,6 +263,8 @@ impl<D: Disk, S: PeerSocket> Connections<D, S> {
     /// The round's time, and when it began.
     fn note_round(&mut self, clock: &Option<Stamp>, now: Instant)
         ensures stored { self.new.stored ≡ self.old.stored }
+        ensures links { self.new.links ≡ self.old.links }
+        ensures changes { self.new.changes ≡ self.old.changes }
         ensures due { self.new.due ≡ self.old.due }
     {
         self.round_time = *clock;

@@ -52,7 +52,7 @@ impl<D: Disk, S: PeerSocket> Connections<D, S> {
     {
         for key in 0..PEERS {
             self.send_last(key, now);
-            self.ignore_ended(key);
+            self.shut_ended(key);
         }
     }
 
@@ -69,7 +69,7 @@ impl<D: Disk, S: PeerSocket> Connections<D, S> {
         let _ = self.stored.book();
     }
 
-    /// A peer is sent what it is owed, and told that nothing more will come.
+    /// A peer is sent what it is owed.
     #[tactic(auto, using(crate::proofs::Streaming::sent, crate::proofs::Pairing::paired, crate::proofs::Known::known))]
     fn send_last(&mut self, key: usize, now: Instant)
         ensures moves { ReachesBy (IsSending key) self.old.stored self.new.stored }
@@ -80,15 +80,14 @@ impl<D: Disk, S: PeerSocket> Connections<D, S> {
         if let Some(slot) = self.links.get_mut(key) {
             if let Some(link) = slot {
                 link.send(&mut self.stored, key, now);
-                link.shut();
             }
         }
     }
 
-    /// What a peer has sent whose session has ended is read, and nobody hears it: a connection that
-    /// is closed before that loses what was sent last.
+    /// A peer whose session has ended is told that nothing more will come, and what it has sent is
+    /// read, and nobody hears it: a connection that is closed before that loses what was sent last.
     #[tactic(auto, using(crate::proofs::Pairing::paired))]
-    fn ignore_ended(&mut self, key: usize)
+    fn shut_ended(&mut self, key: usize)
         ensures stored { self.new.stored ≡ self.old.stored }
         ensures others { OthersStay key self.old.links.items self.new.links.items }
     {
@@ -97,6 +96,7 @@ impl<D: Disk, S: PeerSocket> Connections<D, S> {
         }
         if let Some(slot) = self.links.get_mut(key) {
             if let Some(link) = slot {
+                link.shut(&self.stored, key);
                 link.ignore(&self.stored, key, &mut self.piece);
             }
         }

@@ -17,6 +17,7 @@ impl<D: Disk, S: PeerSocket> Connections<D, S> {
     pub fn make_due(&mut self, key: usize)
         ensures stored { self.new.stored ≡ self.old.stored }
         ensures links { self.new.links ≡ self.old.links }
+        ensures changes { self.new.changes ≡ self.old.changes }
         ensures due { self.new.due ≡ with_due key self.old.due }
     {
         self.due.add(key);

@@ -4,7 +4,8 @@ ghost use Rattle.std.specs.Prelude.{◌≡◌, true};
 ghost use Rattle.peer_connections.specs.Allowed.{IsHearing, lasts_at};
 ghost use Rattle.peer_connections.specs.Links.{OthersStay};
 ghost use Rattle.peer_connections.specs.Reaches.{ReachesBy};
-ghost use Rattle.peer_connections.specs.Streams.{HearsStream, known_at};
+ghost use Rattle.peer_connections.specs.Sending.{KeepsChanges};
+ghost use Rattle.peer_connections.specs.Streams.{HearsStream, StayKnown, known_at};
 
 use crate::connections::Connections;
 use crate::peer_stream::PeerSocket;
@@ -15,13 +16,15 @@ impl<D: Disk, S: PeerSocket> Connections<D, S> {
     /// A peer has sent something, or hung up. With `to_wait` it is read until its connection waits,
     /// as `Link::hear` says. Where the station's book can't be given room for what it sent, it
     /// isn't read from.
-    #[tactic(auto, using(crate::proofs::Reaching::moved, crate::proofs::Known::heard))]
+    #[tactic(auto, using(crate::proofs::Reaching::moved, crate::proofs::Known::heard, crate::proofs::Seeing::kept))]
     pub fn hear(&mut self, key: usize, to_wait: bool, now: Instant) -> Result<(), DiskFault>
         ensures moves { ReachesBy (IsHearing key) self.old.stored self.new.stored }
         ensures stream { lasts_at self.old.stored.station key ≡ true
             → HearsStream key (known_at S.remaining self.old.links.items key)
             (known_at S.remaining self.new.links.items key) self.old.stored self.new.stored }
         ensures others { OthersStay key self.old.links.items self.new.links.items }
+        ensures noted { KeepsChanges self.old.changes self.new.changes
+            self.new.stored.station.book }
         ensures due { self.new.due ≡ self.old.due }
     {
         if self.hear_link(key, to_wait, now)? {
@@ -35,6 +38,7 @@ impl<D: Disk, S: PeerSocket> Connections<D, S> {
     fn note_heard(&mut self, key: usize)
         ensures stored { self.new.stored ≡ self.old.stored }
         ensures links { self.new.links ≡ self.old.links }
+        ensures changes { self.new.changes ≡ self.old.changes }
         ensures due { self.new.due ≡ self.old.due }
     {
         if let Some(until) = self.held_until(key) {
@@ -48,13 +52,15 @@ impl<D: Disk, S: PeerSocket> Connections<D, S> {
 
     /// A peer's connection is read, and the station hears it, unless it is held back. Where its
     /// session has ended nobody hears it. Says whether the station may have heard it.
-    #[tactic(auto, using(crate::proofs::Streaming::heard, crate::proofs::Pairing::paired, crate::proofs::Known::known))]
+    #[tactic(auto, using(crate::proofs::Streaming::heard, crate::proofs::Pairing::paired, crate::proofs::Known::known, crate::proofs::Seeing::kept))]
     fn hear_link(&mut self, key: usize, to_wait: bool, now: Instant) -> Result<bool, DiskFault>
         ensures moves { ReachesBy (IsHearing key) self.old.stored self.new.stored }
         ensures stream { lasts_at self.old.stored.station key ≡ true
             → HearsStream key (known_at S.remaining self.old.links.items key)
             (known_at S.remaining self.new.links.items key) self.old.stored self.new.stored }
         ensures others { OthersStay key self.old.links.items self.new.links.items }
+        ensures noted { KeepsChanges self.old.changes self.new.changes
+            self.new.stored.station.book }
         ensures due { self.new.due ≡ self.old.due }
     {
         if let Some(slot) = self.links.get_mut(key) {
@@ -98,10 +104,13 @@ impl<D: Disk, S: PeerSocket> Connections<D, S> {
     }
 
     /// A peer's connection takes octets again.
-    #[tactic(auto, using(crate::proofs::Pairing::paired))]
+    #[tactic(auto, using(crate::proofs::Pairing::paired, crate::proofs::Known::known_as_before))]
     pub fn unblock(&mut self, key: usize)
         ensures stored { self.new.stored ≡ self.old.stored }
         ensures others { OthersStay key self.old.links.items self.new.links.items }
+        ensures left { StayKnown S.remaining self.old.links.items self.new.links.items }
+        ensures got { StayKnown S.contents self.old.links.items self.new.links.items }
+        ensures changes { self.new.changes ≡ self.old.changes }
         ensures due { self.new.due ≡ self.old.due }
     {
         if let Some(slot) = self.links.get_mut(key) {

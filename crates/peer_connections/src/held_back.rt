@@ -1,6 +1,7 @@
 //! Sessions that are held back, since no more of them may be read yet.
 
 ghost use Rattle.std.specs.Prelude.{◌≡◌};
+ghost use Rattle.peer_connections.specs.Streams.{StayKnown};
 
 use crate::connections::Connections;
 use crate::peer_stream::PeerSocket;
@@ -20,6 +21,7 @@ impl<D: Disk, S: PeerSocket> Connections<D, S> {
     pub(crate) fn note_hold(&mut self, until: Instant)
         ensures stored { self.new.stored ≡ self.old.stored }
         ensures links { self.new.links ≡ self.old.links }
+        ensures changes { self.new.changes ≡ self.old.changes }
         ensures due { self.new.due ≡ self.old.due }
     {
         let is_first = match self.read_on_at {
@@ -34,8 +36,12 @@ impl<D: Disk, S: PeerSocket> Connections<D, S> {
     /// A session that was held back for long enough is read on: its connection is reported once
     /// more. In a round one is, and the next one in the next round: others have their turn between
     /// them.
+    #[tactic(auto, using(crate::proofs::Known::known_as_before))]
     pub fn read_on(&mut self, registry: &Registry, now: Instant)
         ensures stored { self.new.stored ≡ self.old.stored }
+        ensures left { StayKnown S.remaining self.old.links.items self.new.links.items }
+        ensures got { StayKnown S.contents self.old.links.items self.new.links.items }
+        ensures changes { self.new.changes ≡ self.old.changes }
         ensures due { self.new.due ≡ self.old.due }
     {
         if !self.is_read_on_due(now) {
@@ -62,9 +68,12 @@ impl<D: Disk, S: PeerSocket> Connections<D, S> {
     }
 
     /// The session of a peer is held back no more, if it was for long enough; else false.
-    #[tactic(auto, using(crate::proofs::Pairing::paired))]
+    #[tactic(auto, using(crate::proofs::Pairing::paired, crate::proofs::Known::known_as_before))]
     fn end_hold(&mut self, registry: &Registry, key: usize, now: Instant) -> bool
         ensures stored { self.new.stored ≡ self.old.stored }
+        ensures left { StayKnown S.remaining self.old.links.items self.new.links.items }
+        ensures got { StayKnown S.contents self.old.links.items self.new.links.items }
+        ensures changes { self.new.changes ≡ self.old.changes }
         ensures due { self.new.due ≡ self.old.due }
     {
         let Some(until) = self.held_until(key) else {

@@ -1,44 +1,49 @@
 //! Peers that were waited for too long.
 
-ghost use Rattle.std.specs.Prelude.{◌≡◌, OnOk, true};
-ghost use Rattle.journal.specs.Stored.{is_all_stored};
+ghost use Rattle.std.specs.Prelude.{◌≡◌};
 ghost use Rattle.peer_connections.specs.Allowed.{IsLate, IsPassing};
+ghost use Rattle.peer_connections.specs.Due.{StayDue, with_due};
 ghost use Rattle.peer_connections.specs.Links.{OthersStay};
 ghost use Rattle.peer_connections.specs.Reaches.{ReachesBy};
+ghost use Rattle.peer_connections.specs.Sending.{KeepsChanges};
+ghost use Rattle.peer_connections.specs.Streams.{AllStayKnown, StaysKnownAt};
 
 use crate::connections::Connections;
 use crate::naming::PeerName;
 use crate::peer_stream::PeerSocket;
 use crate::sizes::{CLOSING_SECONDS, FIRST_MESSAGE_SECONDS, TAKING_SECONDS};
 use journal::{Disk, DiskFault};
-use mio::Registry;
 use std::time::{Duration, Instant};
 
 impl<D: Disk, S: PeerSocket> Connections<D, S> {
     /// Sessions of which nothing came for so many seconds end, and so do those that are read from
     /// no more, since their peers take nothing. Connections that don't close are closed, and so are
-    /// those that have brought no whole message.
+    /// those that have brought no whole message. Dispensers that are gone for too long are lost,
+    /// and releases that stand for too long end. Nothing is read of a connection, and none is sent
+    /// anything: who is told of these rows is sent them by `send_due`.
     #[tactic(auto, using(crate::proofs::Reaching::passed))]
     pub fn sweep<E: Eprint>(
         &mut self,
-        registry: &Registry,
         rt: &E,
         idle: Option<u64>,
         now: Instant,
     ) -> Result<(), DiskFault>
         ensures moves { ReachesBy IsPassing self.old.stored self.new.stored }
-        ensures stored { OnOk result (is_all_stored self.new.stored ≡ true) }
+        ensures unread { AllStayKnown S.remaining self.old.links.items self.new.links.items }
+        ensures got { AllStayKnown S.contents self.old.links.items self.new.links.items }
+        ensures noted { KeepsChanges self.old.changes self.new.changes
+            self.new.stored.station.book }
+        ensures due { StayDue self.old.due self.new.due }
     {
         self.may_wait = false;
         for key in 0..self.links.len() {
             self.end_if_late(rt, key, idle, now);
         }
-        self.keep_up(now)?;
-        self.send_due(registry, rt, now)
+        self.keep_up(now)
     }
 
     /// The session of a peer ends, or its connection is closed, if it was waited for too long.
-    #[tactic(auto, using(crate::proofs::Reaching::left_late, crate::proofs::Linking::kept))]
+    #[tactic(auto, using(crate::proofs::Reaching::left_late, crate::proofs::Linking::kept, crate::proofs::Known::known, crate::proofs::Dues::due))]
     pub(crate) fn end_if_late<E: Eprint>(
         &mut self,
         rt: &E,
@@ -48,6 +53,10 @@ impl<D: Disk, S: PeerSocket> Connections<D, S> {
     )
         ensures moves { ReachesBy (IsLate key) self.old.stored self.new.stored }
         ensures others { OthersStay key self.old.links.items self.new.links.items }
+        ensures unread { StaysKnownAt S.remaining key self.old.links.items self.new.links.items }
+        ensures got { StaysKnownAt S.contents key self.old.links.items self.new.links.items }
+        ensures changes { self.new.changes ≡ self.old.changes }
+        ensures due { StayDue self.old.due self.new.due }
     {
         match self.find_timeout(key, idle, now) {
             Timeout::NotYet => {}
@@ -59,10 +68,14 @@ impl<D: Disk, S: PeerSocket> Connections<D, S> {
     }
 
     /// The session of a peer ends, of which nothing came for so many seconds, or that took nothing.
-    #[tactic(auto, using(crate::proofs::Reaching::left_late, crate::proofs::Pairing::paired))]
+    #[tactic(auto, using(crate::proofs::Reaching::left_late, crate::proofs::Pairing::paired, crate::proofs::Known::known))]
     fn end_late<E: Eprint>(&mut self, rt: &E, key: usize, what: &str, seconds: u64, now: Instant)
         ensures moves { ReachesBy (IsLate key) self.old.stored self.new.stored }
         ensures others { OthersStay key self.old.links.items self.new.links.items }
+        ensures unread { StaysKnownAt S.remaining key self.old.links.items self.new.links.items }
+        ensures got { StaysKnownAt S.contents key self.old.links.items self.new.links.items }
+        ensures changes { self.new.changes ≡ self.old.changes }
+        ensures due { self.new.due ≡ with_due key self.old.due }
     {
         let name = PeerName {
             node: self.stored.node(key),

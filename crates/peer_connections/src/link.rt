@@ -4,7 +4,7 @@ ghost use Rattle.std.specs.Prelude.{◌≡◌, ◌⊎◌, [], false, length};
 ghost use Rattle.station.specs.declared.sizes.TheConstants.{HEARD_OCTETS};
 ghost use Rattle.peer_connections.specs.Allowed.{lasts_at};
 ghost use Rattle.journal.specs.Stored.{told_at};
-ghost use Rattle.peer_connections.specs.Sending.{HasSeen, HasStopped};
+ghost use Rattle.peer_connections.specs.Sending.{HasSeen, HasStopped, KeepsChanges};
 ghost use Rattle.peer_connections.specs.Streams.{HearsStream, SendsStream};
 
 use crate::allowance::Allowance;
@@ -12,6 +12,7 @@ use crate::calls::{read_ignored, read_with_room, write_once};
 use crate::change_watch::ChangeWatch;
 use crate::held_back::after;
 use crate::peer_stream::PeerSocket;
+use crate::session_over::SessionOver;
 use crate::sizes::{FIRST_HOLD_MILLISECONDS, HOLD_MILLISECONDS};
 use connection_calls::{CALLS_A_TURN, Call};
 use journal::{Disk, DiskFault, StoredStation};
@@ -63,12 +64,9 @@ pub(crate) enum Channel {
 impl<S> Link<S> {
     /// The connection of a peer that has just come, in a round of this time, and makes so many rows
     /// a second at most.
-    pub(crate) fn new(
-        stream: S,
-        rows_a_second: u64,
-        since: Option<Stamp>,
-        now: Instant,
-    ) -> Link<S> {
+    pub(crate) fn new(stream: S, rows_a_second: u64, since: Option<Stamp>, now: Instant) -> Link<S>
+        ensures { result.stream ≡ stream }
+    {
         Link {
             stream,
             since,
@@ -125,9 +123,12 @@ impl<S: Read> Link<S> {
     ) -> Result<(), DiskFault>
         requires size { length piece.old ≡ HEARD_OCTETS }
         requires seen { HasSeen changes.old.rows_seen stored.old.station.book }
+        requires fed { HasSeen changes.old.rows_fed stored.old.station.book }
         ensures stream { HearsStream key (S.remaining self.old.stream)
             (S.remaining self.new.stream) stored.old stored.new }
         ensures seen { HasSeen changes.new.rows_seen stored.new.station.book }
+        ensures fed { HasSeen changes.new.rows_fed stored.new.station.book }
+        ensures noted { KeepsChanges changes.old changes.new stored.new.station.book }
     {
         self.is_unread = true;
         for _ in 0..CALLS_A_TURN {
@@ -177,11 +178,10 @@ impl<S: Read> Link<S> {
     )
         requires ended { lasts_at stored.now.station key ≡ false }
     {
-        // That is why nobody hears it.
-        let _ = stored.end(key);
+        let over = SessionOver::of(stored, key);
         self.is_unread = true;
         for _ in 0..CALLS_A_TURN {
-            match read_ignored(&mut self.stream, piece) {
+            match read_ignored(&mut self.stream, piece, over) {
                 Call::Passed(_) | Call::Interrupted => {}
                 Call::Waits => {
                     self.is_unread = false;
@@ -234,16 +234,18 @@ impl<S: Write> Link<S> {
 }
 
 impl<S: PeerSocket> Link<S> {
-    /// Tells the peer, once, that nothing more will come.
-    pub(crate) fn shut(&mut self)
+    /// Tells the peer, once, that nothing more will come: its session has ended.
+    pub(crate) fn shut<D: Disk>(&mut self, stored: &StoredStation<D>, key: usize)
+        requires ended { lasts_at stored.now.station key ≡ false }
         ensures stream { self.new.stream ≡ self.old.stream }
         ensures full { self.new.is_full ≡ self.old.is_full }
         ensures unsent { self.new.is_unsent ≡ self.old.is_unsent }
         ensures channel { self.new.channel ≡ self.old.channel }
     {
+        let over = SessionOver::of(stored, key);
         if !self.is_shut {
             self.is_shut = true;
-            self.stream.shut();
+            self.stream.shut(over);
         }
     }
 }

@@ -3,10 +3,12 @@
 ghost use Rattle.std.specs.Prelude.{◌≡◌};
 ghost use Rattle.peer_connections.specs.Allowed.{IsOwn};
 ghost use Rattle.peer_connections.specs.Reaches.{ReachesBy};
+ghost use Rattle.peer_connections.specs.Sending.{KeepsChanges};
 
 use crate::connections::Connections;
 use crate::nodes::point_of;
 use crate::peer_stream::PeerSocket;
+use crate::row_room::make_room;
 use device_map::dispenser;
 use journal::{Disk, DiskFault};
 use site_base::{FpNo, POINTS, PointState};
@@ -17,6 +19,7 @@ impl<D: Disk, S: PeerSocket> Connections<D, S> {
     pub(crate) fn note_dispenser(&mut self, key: usize)
         ensures stored { self.new.stored ≡ self.old.stored }
         ensures links { self.new.links ≡ self.old.links }
+        ensures changes { self.new.changes ≡ self.old.changes }
         ensures due { self.new.due ≡ self.old.due }
     {
         if !self.upkeep.looks_for_lost() {
@@ -35,10 +38,14 @@ impl<D: Disk, S: PeerSocket> Connections<D, S> {
     }
 
     /// Dispensers that are gone for too long are lost, and releases that stand for too long end.
-    /// Their rows are looked at, and their notices are due.
-    #[tactic(auto, using(crate::proofs::Reaching::done_alone))]
+    /// Their rows are still to be looked at.
+    #[tactic(auto, using(crate::proofs::Reaching::done_alone, crate::proofs::Seeing::kept))]
     pub(crate) fn keep_up(&mut self, now: Instant) -> Result<(), DiskFault>
-        ensures { ReachesBy IsOwn self.old.stored self.new.stored }
+        ensures moves { ReachesBy IsOwn self.old.stored self.new.stored }
+        ensures links { self.new.links ≡ self.old.links }
+        ensures due { self.new.due ≡ self.old.due }
+        ensures noted { KeepsChanges self.old.changes self.new.changes
+            self.new.stored.station.book }
     {
         if !self.keeps_up() {
             return Ok(());
@@ -47,14 +54,17 @@ impl<D: Disk, S: PeerSocket> Connections<D, S> {
         for number in 1..=POINTS {
             self.look_at_point(number, now);
         }
-        self.make_owed_due();
         Ok(())
     }
 
     /// At a start no release of the day before stands: each ends, if there is a house till.
-    #[tactic(auto, using(crate::proofs::Reaching::done_alone))]
+    #[tactic(auto, using(crate::proofs::Reaching::done_alone, crate::proofs::Seeing::kept))]
     pub fn end_releases(&mut self) -> Result<(), DiskFault>
-        ensures { ReachesBy IsOwn self.old.stored self.new.stored }
+        ensures moves { ReachesBy IsOwn self.old.stored self.new.stored }
+        ensures links { self.new.links ≡ self.old.links }
+        ensures due { self.new.due ≡ self.old.due }
+        ensures noted { KeepsChanges self.old.changes self.new.changes
+            self.new.stored.station.book }
     {
         self.make_own_room()?;
         for number in 1..=POINTS {
@@ -66,7 +76,10 @@ impl<D: Disk, S: PeerSocket> Connections<D, S> {
     /// The release of the point of this number ends, if it stands.
     #[tactic(auto, using(crate::proofs::Reaching::done_alone))]
     fn end_release_of(&mut self, number: u8)
-        ensures { ReachesBy IsOwn self.old.stored self.new.stored }
+        ensures moves { ReachesBy IsOwn self.old.stored self.new.stored }
+        ensures links { self.new.links ≡ self.old.links }
+        ensures due { self.new.due ≡ self.old.due }
+        ensures changes { self.new.changes ≡ self.old.changes }
     {
         if let Some(p) = FpNo::new(number) {
             self.end_release(p);
@@ -77,16 +90,22 @@ impl<D: Disk, S: PeerSocket> Connections<D, S> {
     /// forgotten.
     #[tactic(auto, using(crate::proofs::Reaching::done_alone, crate::proofs::Pairing::paired))]
     fn make_own_room(&mut self) -> Result<(), DiskFault>
-        ensures { ReachesBy IsOwn self.old.stored self.new.stored }
+        ensures moves { ReachesBy IsOwn self.old.stored self.new.stored }
+        ensures links { self.new.links ≡ self.old.links }
+        ensures due { self.new.due ≡ self.old.due }
+        ensures noted { KeepsChanges self.old.changes self.new.changes
+            self.new.stored.station.book }
     {
-        self.changes.look(self.stored.book());
-        self.stored.make_room()
+        make_room(&mut self.stored, &mut self.changes)
     }
 
     /// Is the dispenser of the point of this number lost, and has its release stood for too long?
     #[tactic(auto, using(crate::proofs::Reaching::done_alone))]
     fn look_at_point(&mut self, number: u8, now: Instant)
-        ensures { ReachesBy IsOwn self.old.stored self.new.stored }
+        ensures moves { ReachesBy IsOwn self.old.stored self.new.stored }
+        ensures links { self.new.links ≡ self.old.links }
+        ensures due { self.new.due ≡ self.old.due }
+        ensures changes { self.new.changes ≡ self.old.changes }
     {
         let Some(p) = FpNo::new(number) else {
             return;
@@ -103,7 +122,10 @@ impl<D: Disk, S: PeerSocket> Connections<D, S> {
     /// time counts in which the station was stopped.
     #[tactic(auto, using(crate::proofs::Reaching::done_alone))]
     fn look_at_release(&mut self, p: FpNo, is_released: bool, now: Instant)
-        ensures { ReachesBy IsOwn self.old.stored self.new.stored }
+        ensures moves { ReachesBy IsOwn self.old.stored self.new.stored }
+        ensures links { self.new.links ≡ self.old.links }
+        ensures due { self.new.due ≡ self.old.due }
+        ensures changes { self.new.changes ≡ self.old.changes }
     {
         let at = self.round_at.unwrap_or(now);
         if self.upkeep.is_stale(p, is_released, at) {
@@ -114,7 +136,10 @@ impl<D: Disk, S: PeerSocket> Connections<D, S> {
     /// Is the dispenser of a point lost? Where no row of that can be made, it is tried again.
     #[tactic(auto, using(crate::proofs::Reaching::done_alone))]
     fn look_at_dispenser(&mut self, p: FpNo, now: Instant)
-        ensures { ReachesBy IsOwn self.old.stored self.new.stored }
+        ensures moves { ReachesBy IsOwn self.old.stored self.new.stored }
+        ensures links { self.new.links ≡ self.old.links }
+        ensures due { self.new.due ≡ self.old.due }
+        ensures changes { self.new.changes ≡ self.old.changes }
     {
         if !self.upkeep.looks_for_lost() {
             return;
@@ -127,14 +152,20 @@ impl<D: Disk, S: PeerSocket> Connections<D, S> {
 
     /// The house till ends the release of a point.
     fn end_release(&mut self, p: FpNo)
-        ensures { ReachesBy IsOwn self.old.stored self.new.stored }
+        ensures moves { ReachesBy IsOwn self.old.stored self.new.stored }
+        ensures links { self.new.links ≡ self.old.links }
+        ensures due { self.new.due ≡ self.old.due }
+        ensures changes { self.new.changes ≡ self.old.changes }
     {
         self.stored.end_release(p);
     }
 
     /// The dispenser of a point is lost: was a row of that made?
     fn lose_dispenser(&mut self, p: FpNo) -> bool
-        ensures { ReachesBy IsOwn self.old.stored self.new.stored }
+        ensures moves { ReachesBy IsOwn self.old.stored self.new.stored }
+        ensures links { self.new.links ≡ self.old.links }
+        ensures due { self.new.due ≡ self.old.due }
+        ensures changes { self.new.changes ≡ self.old.changes }
     {
         let rows = self.stored.book().len();
         self.stored.lose_dispenser(p);

@@ -1,11 +1,12 @@
 //! The places of peers: who comes gets one, and where all are taken, one that waits without a whole
 //! message leaves.
 
-ghost use Rattle.std.specs.Prelude.{◌≡◌, ◌<◌, ◌≤◌, IfOk, IfSome, None, OnErr, Some, false, ℕ};
+ghost use Rattle.std.specs.Prelude.{◌≡◌, ◌<◌, ◌≤◌, ◌⊎◌, IfOk, IfSome, None, OnErr, Some, false, ℕ};
 ghost use Rattle.std.specs.Prelude.{is_some, true};
-ghost use Rattle.peer_connections.specs.Allowed.{IsDismissal, IsSameOrLeft, IsWelcome, is_place_of};
-ghost use Rattle.peer_connections.specs.Allowed.{is_served_at};
+ghost use Rattle.peer_connections.specs.Allowed.{IsArrival, IsSameOrLeft, is_place_of, is_served_at};
+ghost use Rattle.peer_connections.specs.Coming.{Dismisses, IsOver, IsTurnedAway, Welcomes};
 ghost use Rattle.peer_connections.specs.Links.{ArePaired, AwaitsLink, ComesTo, OthersStay};
+ghost use Rattle.peer_connections.specs.Links.{StaysOrGoes};
 ghost use Rattle.peer_connections.specs.Reaches.{ReachesBy};
 
 use crate::connections::Connections;
@@ -21,15 +22,17 @@ use std::time::Instant;
 impl<D: Disk, S: PeerSocket> Connections<D, S> {
     /// A peer has come over TCP. Where it gets no place, or memory is wanting, its connection is
     /// closed.
-    #[tactic(auto, using(crate::proofs::Reaching::welcomed))]
+    #[tactic(auto, using(crate::proofs::Reaching::welcomed, crate::proofs::Coming::coming))]
     pub fn welcome<E: Eprint>(&mut self, registry: &Registry, rt: &E, stream: S, now: Instant)
-        ensures { ReachesBy (IsWelcome None) self.old.stored self.new.stored }
+        ensures comes { Welcomes S.remaining S.contents None stream self.old.links.items
+            self.new.links.items self.old.stored self.new.stored }
+        ensures changes { self.new.changes ≡ self.old.changes }
     {
         self.settle_or_say(registry, rt, None, stream, now);
     }
 
     /// A peer has come through the door of this place among the doors, as `welcome` says.
-    #[tactic(auto, using(crate::proofs::Reaching::welcomed))]
+    #[tactic(auto, using(crate::proofs::Reaching::welcomed, crate::proofs::Coming::coming))]
     pub fn welcome_at<E: Eprint>(
         &mut self,
         registry: &Registry,
@@ -38,13 +41,15 @@ impl<D: Disk, S: PeerSocket> Connections<D, S> {
         stream: S,
         now: Instant,
     )
-        ensures { ReachesBy (IsWelcome (Some door)) self.old.stored self.new.stored }
+        ensures comes { Welcomes S.remaining S.contents (Some door) stream self.old.links.items
+            self.new.links.items self.old.stored self.new.stored }
+        ensures changes { self.new.changes ≡ self.old.changes }
     {
         self.settle_or_say(registry, rt, Some(door), stream, now);
     }
 
     /// A peer that has come at this door, or over TCP, gets a place. That there is none is said.
-    #[tactic(auto, using(crate::proofs::Reaching::welcomed))]
+    #[tactic(auto, using(crate::proofs::Reaching::welcomed, crate::proofs::Coming::coming))]
     fn settle_or_say<E: Eprint>(
         &mut self,
         registry: &Registry,
@@ -53,7 +58,9 @@ impl<D: Disk, S: PeerSocket> Connections<D, S> {
         stream: S,
         now: Instant,
     )
-        ensures { ReachesBy (IsWelcome door) self.old.stored self.new.stored }
+        ensures comes { Welcomes S.remaining S.contents door stream self.old.links.items
+            self.new.links.items self.old.stored self.new.stored }
+        ensures changes { self.new.changes ≡ self.old.changes }
     {
         match self.settle(registry, door, stream, now) {
             Arrival::Done => {}
@@ -70,7 +77,7 @@ impl<D: Disk, S: PeerSocket> Connections<D, S> {
     /// the peer of one leaves that has waited longest without a whole message: so those that say
     /// nothing keep nobody out. Where memory is wanting at a door, such a peer over TCP leaves: so
     /// those keep nobody from a door.
-    #[tactic(auto, using(crate::proofs::Reaching::welcomed))]
+    #[tactic(auto, using(crate::proofs::Reaching::welcomed, crate::proofs::Coming::coming))]
     fn settle(
         &mut self,
         registry: &Registry,
@@ -78,7 +85,9 @@ impl<D: Disk, S: PeerSocket> Connections<D, S> {
         stream: S,
         now: Instant,
     ) -> Arrival<S>
-        ensures { ReachesBy (IsWelcome door) self.old.stored self.new.stored }
+        ensures comes { Welcomes S.remaining S.contents door stream self.old.links.items
+            self.new.links.items self.old.stored self.new.stored }
+        ensures changes { self.new.changes ≡ self.old.changes }
     {
         match self.arrive(registry, door, stream, now) {
             Arrival::NoPlace(stream) => {
@@ -100,7 +109,7 @@ impl<D: Disk, S: PeerSocket> Connections<D, S> {
     }
 
     /// A peer arrives at this door, or over TCP, and has this connection from then on.
-    #[tactic(auto, using(crate::proofs::Reaching::welcomed, crate::proofs::Pairing::paired))]
+    #[tactic(auto, using(crate::proofs::Reaching::welcomed, crate::proofs::Pairing::paired, crate::proofs::Coming::coming))]
     fn arrive(
         &mut self,
         registry: &Registry,
@@ -108,7 +117,10 @@ impl<D: Disk, S: PeerSocket> Connections<D, S> {
         stream: S,
         now: Instant,
     ) -> Arrival<S>
-        ensures { ReachesBy (IsWelcome door) self.old.stored self.new.stored }
+        ensures comes { Welcomes S.remaining S.contents door stream self.old.links.items
+            self.new.links.items self.old.stored self.new.stored }
+        ensures changes { self.new.changes ≡ self.old.changes }
+        ensures away { IsTurnedAway stream result self.old.links.items self.new.links.items }
     {
         match arrive_in(&mut self.stored, door) {
             Ok(None) => Arrival::NoPlace(stream),
@@ -125,18 +137,22 @@ impl<D: Disk, S: PeerSocket> Connections<D, S> {
 
     /// A connection can't be accepted, since no descriptor is left, say: the peer over TCP leaves
     /// that has waited longest without a whole message. False where none waits so.
-    #[tactic(auto, using(crate::proofs::Reaching::welcomed))]
+    #[tactic(auto, using(crate::proofs::Reaching::welcomed, crate::proofs::Coming::coming))]
     pub fn make_way(&mut self) -> bool
-        ensures { ReachesBy (IsDismissal None) self.old.stored self.new.stored }
+        ensures gone { Dismisses None self.old.links.items self.new.links.items self.old.stored
+            self.new.stored }
+        ensures changes { self.new.changes ≡ self.old.changes }
     {
         self.dismiss_longest_waiting(None)
     }
 
     /// The peer leaves that has waited longest without a whole message, of those of this door, or
     /// of TCP. False where none waits so.
-    #[tactic(auto, using(crate::proofs::Reaching::welcomed))]
+    #[tactic(auto, using(crate::proofs::Reaching::welcomed, crate::proofs::Coming::coming))]
     fn dismiss_longest_waiting(&mut self, door: Option<usize>) -> bool
-        ensures { ReachesBy (IsDismissal door) self.old.stored self.new.stored }
+        ensures gone { Dismisses door self.old.links.items self.new.links.items self.old.stored
+            self.new.stored }
+        ensures changes { self.new.changes ≡ self.old.changes }
     {
         match self.find_longest_waiting(door) {
             Some(key) => {
@@ -213,7 +229,7 @@ fn arrive_in<D: Disk>(
     stored: &mut StoredStation<D>,
     door: Option<usize>,
 ) -> Result<Option<usize>, NoMemory>
-    ensures moves { ReachesBy (IsWelcome door) stored.old stored.new }
+    ensures moves { ReachesBy (IsArrival door) stored.old stored.new }
     ensures unserved { IfOk result (λ found. IfSome found (λ key.
         is_served_at stored.new.station key ≡ false)) }
     ensures place { IfOk result (λ found. IfSome found (λ key. is_place_of door key ≡ true)) }
@@ -231,7 +247,7 @@ fn arrive_in<D: Disk>(
 /// A peer arrives in the station over TCP.
 #[tactic(auto, using(crate::proofs::Reaching::welcomed, crate::proofs::Pairing::arrived))]
 fn arrive_over_tcp<D: Disk>(stored: &mut StoredStation<D>) -> Result<Option<usize>, NoMemory>
-    ensures moves { ReachesBy (IsWelcome None) stored.old stored.new }
+    ensures moves { ReachesBy (IsArrival None) stored.old stored.new }
     ensures unserved { IfOk result (λ found. IfSome found (λ key.
         is_served_at stored.new.station key ≡ false)) }
     ensures place { IfOk result (λ found. IfSome found (λ key. is_place_of None key ≡ true)) }
@@ -252,7 +268,7 @@ fn arrive_at<D: Disk>(
     stored: &mut StoredStation<D>,
     place: usize,
 ) -> Result<Option<usize>, NoMemory>
-    ensures moves { ReachesBy (IsWelcome (Some place)) stored.old stored.new }
+    ensures moves { ReachesBy (IsArrival (Some place)) stored.old stored.new }
     ensures unserved { IfOk result (λ found. IfSome found (λ key.
         is_served_at stored.new.station key ≡ false)) }
     ensures place { IfOk result (λ found. IfSome found (λ key.
@@ -270,7 +286,7 @@ fn arrive_at<D: Disk>(
 
 /// The peer that has come to this place has this connection. Where the system doesn't report it,
 /// the peer leaves: then false.
-#[tactic(auto, using(crate::proofs::Pairing::linked))]
+#[tactic(auto, using(crate::proofs::Pairing::linked, crate::proofs::Coming::coming))]
 fn set_link<D: Disk, S: PeerSocket>(
     stored: &mut StoredStation<D>,
     links: &mut Vec<Option<Link<S>>>,
@@ -281,6 +297,8 @@ fn set_link<D: Disk, S: PeerSocket>(
     requires awaits { AwaitsLink key links.old.items stored.old.station.peers }
     ensures left { IsSameOrLeft key stored.old stored.new }
     ensures others { OthersStay key links.old.items links.new.items }
+    ensures came { (StaysOrGoes links.old.items links.new.items key)
+        ⊎ (IsOver S.remaining S.contents link.stream links.new.items key) }
     ensures paired { ArePaired links.new.items stored.new.station.peers }
 {
     let mut link = link;

@@ -10,8 +10,9 @@ ghost use Rattle.peer_connections.specs.Allowed.{IsClosing, IsFollowing, IsSendi
 ghost use Rattle.peer_connections.specs.Links.{OthersStay, has_link};
 ghost use Rattle.peer_connections.specs.Reaches.{ReachesBy};
 ghost use Rattle.peer_connections.specs.Sending.{AreSentTo, FailsAt, IsLetGo, IsSentTo};
-ghost use Rattle.peer_connections.specs.Streams.{AllContinue, GetsNoMore, SendsAndFollows};
-ghost use Rattle.peer_connections.specs.Streams.{SendsStream, known_at};
+ghost use Rattle.peer_connections.specs.Sending.{KeepsChanges};
+ghost use Rattle.peer_connections.specs.Streams.{AllContinue, AllGetMore, SendsAndFollows};
+ghost use Rattle.peer_connections.specs.Streams.{SendsStream, StaysKnownAt, known_at};
 
 use crate::connections::Connections;
 use crate::link::Channel;
@@ -36,6 +37,9 @@ impl<D: Disk, S: PeerSocket> Connections<D, S> {
         ensures moves { ReachesBy IsFollowing self.old.stored self.new.stored }
         ensures stored { OnOk result (is_all_stored self.new.stored ≡ true) }
         ensures due { OnOk result (self.new.due ≡ []) }
+        ensures got { AllGetMore S.contents self.old.links.items self.new.links.items }
+        ensures noted { KeepsChanges self.old.changes self.new.changes
+            self.new.stored.station.book }
         ensures sent { OnOk result (length self.new.stored.station.book.rows
             ≡ length self.old.stored.station.book.rows
             → AreSentTo self.old.due self.new.stored self.new.links.items) }
@@ -58,7 +62,9 @@ impl<D: Disk, S: PeerSocket> Connections<D, S> {
         ensures journal { self.new.stored.journal ≡ self.old.stored.journal }
         ensures rows { length self.old.stored.station.book.rows
             ≤ length self.new.stored.station.book.rows }
+        ensures changes { self.new.changes ≡ self.old.changes }
         ensures due { self.new.due ≡ [] }
+        ensures got { AllGetMore S.contents self.old.links.items self.new.links.items }
         ensures sent { length self.new.stored.station.book.rows
             ≡ length self.old.stored.station.book.rows
             → AreSentTo self.old.due self.new.stored self.new.links.items }
@@ -81,7 +87,9 @@ impl<D: Disk, S: PeerSocket> Connections<D, S> {
         ensures journal { self.new.stored.journal ≡ self.old.stored.journal }
         ensures rows { length self.old.stored.station.book.rows
             ≤ length self.new.stored.station.book.rows }
+        ensures changes { self.new.changes ≡ self.old.changes }
         ensures due { self.new.due ≡ self.old.due }
+        ensures got { AllGetMore S.contents self.old.links.items self.new.links.items }
         ensures sent { length self.new.stored.station.book.rows
             ≡ length self.old.stored.station.book.rows
             → AreSentTo (take at self.old.due) self.old.stored self.old.links.items
@@ -107,6 +115,7 @@ impl<D: Disk, S: PeerSocket> Connections<D, S> {
         ensures others { OthersStay key self.old.links.items self.new.links.items }
         ensures sent { IsSentTo key self.new.stored self.new.links.items }
         ensures journal { self.new.stored.journal ≡ self.old.stored.journal }
+        ensures changes { self.new.changes ≡ self.old.changes }
         ensures due { self.new.due ≡ self.old.due }
     {
         match self.send_link(key, now) {
@@ -134,6 +143,7 @@ impl<D: Disk, S: PeerSocket> Connections<D, S> {
         ensures journal { self.new.stored.journal ≡ self.old.stored.journal }
         ensures failed { result ≡ Some Channel.Failed
             → FailsAt (get_or self.new.links.items key None) }
+        ensures changes { self.new.changes ≡ self.old.changes }
         ensures due { self.new.due ≡ self.old.due }
     {
         if let Some(slot) = self.links.get_mut(key) {
@@ -157,7 +167,8 @@ impl<D: Disk, S: PeerSocket> Connections<D, S> {
             self.new.links.items }
         ensures stays { has_link self.new.links.items key ≡ true
             → self.new.stored ≡ self.old.stored }
-        ensures got { GetsNoMore S.contents key self.old.links.items self.new.links.items }
+        ensures got { StaysKnownAt S.contents key self.old.links.items self.new.links.items }
+        ensures changes { self.new.changes ≡ self.old.changes }
         ensures due { self.new.due ≡ self.old.due }
     {
         if let Some(end) = self.stored.end(key) {
@@ -174,7 +185,8 @@ impl<D: Disk, S: PeerSocket> Connections<D, S> {
         ensures others { OthersStay key self.old.links.items self.new.links.items }
         ensures sent { IsSentTo key self.old.stored self.old.links.items
             → IsSentTo key self.new.stored self.new.links.items }
-        ensures got { GetsNoMore S.contents key self.old.links.items self.new.links.items }
+        ensures got { StaysKnownAt S.contents key self.old.links.items self.new.links.items }
+        ensures changes { self.new.changes ≡ self.old.changes }
         ensures due { self.new.due ≡ self.old.due }
     {
         let is_read = self.stored.is_read(key);

@@ -1,3 +1,4 @@
 pub mod RowCounts
 pub mod SealWords
 pub mod Stories
+pub mod AskedGaps

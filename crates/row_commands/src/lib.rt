@@ -5,9 +5,12 @@
 
 mod asked_rows;
 mod counters;
+mod gap_rows;
+mod meter_rows;
 mod options;
 mod output;
 mod past_row;
+mod people_report;
 mod report;
 mod row_count;
 mod row_form;

@@ -3,6 +3,7 @@
 ghost use Rattle.std.specs.Prelude.{◌≡◌, ◌≤◌, ◌<◌, ◌&&◌, IfErr, IfOk, IfSome, IsSome, None, OnErr};
 ghost use Rattle.std.specs.Prelude.{OnOk, nat_le, true};
 ghost use Rattle.std.specs.Process.{exit_status};
+ghost use Rattle.row_commands.specs.AskedGaps.{is_before, is_behind};
 
 use past_rows::ShiftRange;
 use program_io::{COMMAND_LINE, FAULT, exit_with};
@@ -13,6 +14,7 @@ use std::process::ExitCode;
 pub fn read_shifts(rt: &impl Eprint, word: Option<&str>) -> Result<Option<ShiftRange>, ExitCode>
     ensures all { word.entry ≡ None → IfOk result (λ shifts. shifts ≡ None) }
     ensures some { IsSome word.entry → IfOk result (λ shifts. IsSome shifts) }
+    ensures order { IfOk result (λ shifts. IfSome shifts (λ x. x.first ≤ x.last)) }
     ensures failed { IfErr result (λ status. exit_status status ≡ COMMAND_LINE) }
 {
     let Some(word) = word else {
@@ -71,4 +73,24 @@ pub fn check_there(rt: &impl Eprint, shift: ShiftNo, open_shift: ShiftNo) -> Res
         eprintln!(rt; "shift {shift} isn't there: shift {open_shift} is open"),
         FAULT,
     ))
+}
+
+/// Is this shift before those that are asked for?
+pub fn is_before(shifts: &Option<ShiftRange>, shift: ShiftNo) -> bool
+    ensures { result ≡ is_before shifts.now shift }
+{
+    match shifts {
+        Some(shifts) => shift.get() < shifts.first.get(),
+        None => false,
+    }
+}
+
+/// Is this shift behind those that are asked for?
+pub fn is_behind(shifts: &Option<ShiftRange>, shift: ShiftNo) -> bool
+    ensures { result ≡ is_behind shifts.now shift }
+{
+    match shifts {
+        Some(shifts) => shifts.last.get() < shift.get(),
+        None => false,
+    }
 }

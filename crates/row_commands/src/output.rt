@@ -5,7 +5,8 @@ ghost use Rattle.std.specs.Process.{exit_status};
 ghost use Rattle.program_io.specs.declared.exit.TheConstants.{FAULT};
 
 use devices::{Counted, PIECE_OCTETS, write_whole};
-use program_io::{TURNS, exit_unwritten};
+use program_io::{TURNS, exit_no_memory, exit_unwritten};
+use site_base::NoMemory;
 use std::io;
 use std::process::ExitCode;
 
@@ -34,4 +35,15 @@ pub fn print_piece(rt: &(impl Print + Eprint), text: &mut Vec<u8>) -> Result<(),
         return Ok(());
     }
     print_text(rt, text)
+}
+
+/// Prints a table, if there was memory for it.
+pub fn print_table(
+    rt: &(impl Print + Eprint),
+    table: Result<Vec<u8>, NoMemory>,
+) -> Result<(), ExitCode> {
+    match table {
+        Ok(mut text) => print_text(rt, &mut text),
+        Err(NoMemory) => Err(exit_no_memory(rt)),
+    }
 }

@@ -5,9 +5,10 @@ ghost use Rattle.history_folder.specs.Reading.{IsWhole};
 ghost use Rattle.past_rows.specs.ShiftFigures.{HasTaken};
 
 use crate::options::{check_there, read_shifts};
-use crate::output::print_text;
+use crate::output::print_table;
+use crate::people_report::report_people;
 use command_line::{ReportForm, ReportOptions};
-use day_report::{report_as_json, report_as_text, report_for_people};
+use day_report::{report_as_json, report_as_text};
 use devices::ReadFault;
 use forecourt_engines::ReplayFault;
 use history_folder::{FolderWalk, read_folder};
@@ -28,9 +29,10 @@ pub fn run_report_folder<R: Files + Print + Eprint + AllocGlobal>(
         Ok(shifts) => shifts,
         Err(status) => return status,
     };
-    let printed = match shifts {
-        None => report_all(rt, options.site, options.form),
-        Some(shifts) => report_shifts(rt, options.site, options.form, shifts),
+    let printed = match options.form {
+        ReportForm::People => report_people(rt, options.site, &shifts),
+        ReportForm::Lines => report_rows(rt, options.site, shifts, RowsForm::Lines),
+        ReportForm::Json => report_rows(rt, options.site, shifts, RowsForm::Json),
     };
     match printed {
         Ok(()) => ExitCode::SUCCESS,
@@ -38,11 +40,33 @@ pub fn run_report_folder<R: Files + Print + Eprint + AllocGlobal>(
     }
 }
 
+/// How a report is printed that is for programs.
+#[derive(Clone, Copy, Debug, PartialEq, Eq)]
+enum RowsForm {
+    /// A line for each figure.
+    Lines,
+    /// One object of JSON.
+    Json,
+}
+
+/// Prints the report of these shifts, or of all.
+fn report_rows<R: Files + Print + Eprint + AllocGlobal>(
+    rt: &R,
+    folder: &str,
+    shifts: Option<ShiftRange>,
+    form: RowsForm,
+) -> Result<(), ExitCode> {
+    match shifts {
+        None => report_all(rt, folder, form),
+        Some(shifts) => report_shifts(rt, folder, form, shifts),
+    }
+}
+
 /// Prints the report of all shifts.
 fn report_all<R: Files + Print + Eprint + AllocGlobal>(
     rt: &R,
     folder: &str,
-    form: ReportForm,
+    form: RowsForm,
 ) -> Result<(), ExitCode> {
     match read_folder(rt, folder) {
         Ok(history) => report_book(rt, &history.book, form),
@@ -54,7 +78,7 @@ fn report_all<R: Files + Print + Eprint + AllocGlobal>(
 fn report_book<R: Print + Eprint + AllocGlobal>(
     rt: &R,
     book: &SiteBook,
-    form: ReportForm,
+    form: RowsForm,
 ) -> Result<(), ExitCode> {
     match book.totals(rt.alloc()) {
         Ok(totals) => print_report(rt, book.config(), &totals, form),
@@ -66,7 +90,7 @@ fn report_book<R: Print + Eprint + AllocGlobal>(
 fn report_shifts<R: Files + Print + Eprint + AllocGlobal>(
     rt: &R,
     folder: &str,
-    form: ReportForm,
+    form: RowsForm,
     shifts: ShiftRange,
 ) -> Result<(), ExitCode> {
     let mut walk = FolderWalk::open(rt, folder)?;
@@ -82,7 +106,7 @@ fn report_figures<R: Print + Eprint + AllocGlobal>(
     rt: &R,
     book: &SiteBook,
     figures: &ShiftFigures,
-    form: ReportForm,
+    form: RowsForm,
 ) -> Result<(), ExitCode>
     requires { HasTaken figures.now book.now }
 {
@@ -130,14 +154,11 @@ fn print_report<R: Print + Eprint + AllocGlobal>(
     rt: &R,
     config: &SiteConfig,
     totals: &Totals,
-    form: ReportForm,
+    form: RowsForm,
 ) -> Result<(), ExitCode>
     requires { length totals.now.products ≡ length config.now.products }
 {
-    match report_text(rt.alloc(), config, totals, form) {
-        Ok(mut text) => print_text(rt, &mut text),
-        Err(NoMemory) => Err(exit_no_memory(rt)),
-    }
+    print_table(rt, report_text(rt.alloc(), config, totals, form))
 }
 
 /// The report of these figures in this form.
@@ -145,13 +166,12 @@ fn report_text(
     alloc: Global,
     config: &SiteConfig,
     totals: &Totals,
-    form: ReportForm,
+    form: RowsForm,
 ) -> Result<Vec<u8>, NoMemory>
     requires { length totals.now.products ≡ length config.now.products }
 {
     match form {
-        ReportForm::Lines => Ok(report_as_text(alloc, config, totals, 0)?.into_bytes()),
-        ReportForm::People => report_for_people(alloc, config.products(), totals),
-        ReportForm::Json => Ok(report_as_json(alloc, config.products(), totals, 0)?.into_bytes()),
+        RowsForm::Lines => Ok(report_as_text(alloc, config, totals, 0)?.into_bytes()),
+        RowsForm::Json => Ok(report_as_json(alloc, config.products(), totals, 0)?.into_bytes()),
     }
 }

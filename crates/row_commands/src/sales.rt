@@ -5,7 +5,7 @@ ghost use Rattle.history_folder.specs.Reading.{IsWhole};
 ghost use Rattle.sales_table.specs.TimedSales.{is_cleared_in};
 
 use crate::options::{check_shifts, is_asked, read_shifts};
-use crate::output::print_text;
+use crate::output::print_table;
 use crate::times::read_span;
 use command_line::SalesOptions;
 use devices::ReadFault;
@@ -163,16 +163,5 @@ fn add_draw(
     match draw {
         Some(draw) if is_asked(shifts, draw.shift) => Ok(draws.push(draw)?),
         _ => Ok(()),
-    }
-}
-
-/// Prints a table, if there was memory for it.
-fn print_table(
-    rt: &(impl Print + Eprint),
-    table: Result<Vec<u8>, NoMemory>,
-) -> Result<(), ExitCode> {
-    match table {
-        Ok(mut text) => print_text(rt, &mut text),
-        Err(NoMemory) => Err(exit_no_memory(rt)),
     }
 }

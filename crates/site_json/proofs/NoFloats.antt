@@ -1,23 +1,25 @@
 -- No number of a site is a float.
-use Rattle.std.proofs.Common.{◌≡◌, ℕ, Bool, false, List, [], ◌∷◌, Option, Some, None}
-use Rattle.std.proofs.Common.{refl}
+use Rattle.std.proofs.Common.{◌≡◌, ◌^◌, ℕ, Bool, true, false, List, [], ◌∷◌, Option, Some, None}
+use Rattle.std.proofs.Common.{nat_lt, refl}
 use Rattle.serde_json.specs.View.{items_of}
 use Rattle.serde_json.specs.Written.{has_float, items_have_float}
 use Rattle.site_base.specs.declared.config.PointEntry.{PointEntry}
 use Rattle.site_base.specs.declared.view.PointView.{PointView}
+use Rattle.meters.specs.Nozzles.{Nozzle, last_of, nozzles_of_point}
 use Rattle.transaction_buffer.specs.Sales.{till_of}
 use Rattle.written_site.specs.ShiftFigures.{product_totals, tills}
 use Rattle.written_site.specs.SiteState.{SiteState, view_point}
 use Rattle.site_book.specs.declared.named_sale.NamedSale.{NamedSale}
 use Rattle.site_book.specs.Book.{Book, site_of_book}
-use Rattle.site_json.specs.Figures.{figure_if, text_if}
+use Rattle.site_json.specs.Figures.{figure_if, sum_data, text_if}
+use Rattle.site_json.specs.Nozzles.{nozzle_data, nozzles_data}
 use Rattle.site_json.specs.Points.{cents_so_far, fuelling_data, point_data, points_data}
 use Rattle.site_json.specs.Points.{preset_cents, preset_millilitres, product_out}
 use Rattle.site_json.specs.declared.sessions.PeerSession.{PeerSession}
 use Rattle.site_json.specs.Sessions.{is_connected, session_data}
 use Rattle.site_json.specs.SiteData.{site_data}
 use Rattle.site_json.specs.Tills.{till_data}
-use Rattle.site_json.specs.Transactions.{sales_at, transaction_data, unpaid_data}
+use Rattle.site_json.specs.Transactions.{cents_of, sales_at, transaction_data, unpaid_data}
 use Rattle.day_report.proofs.NoFloats.{no_float_mapped, no_float_products}
 
 no_float_if : (o : Option ℕ) → has_float (figure_if o) ≡ false
@@ -28,6 +30,13 @@ no_float_text : (o : Option (List ℕ)) → has_float (text_if o) ≡ false
 no_float_text None = refl
 no_float_text (Some text) = refl
 
+no_float_sum : (n : ℕ) → has_float (sum_data n) ≡ false
+no_float_sum n = by (nat_lt n (2 ^ 64)) refl
+  where
+    by : (b : Bool) → nat_lt n (2 ^ 64) ≡ b → has_float (sum_data n) ≡ false
+    by true is = rw is refl
+    by false is = rw is refl
+
 no_float_fuelling : (v : PointView) → has_float (fuelling_data v) ≡ false
 no_float_fuelling v =
     rw (
@@ -37,13 +46,17 @@ no_float_fuelling v =
       no_float_if (preset_millilitres v.preset),
     ) refl
 
-no_float_point : (connected : Bool) (e : PointEntry) (v : PointView)
-    → has_float (point_data connected e v) ≡ false
-no_float_point connected e v =
+no_float_nozzle : (s : SiteState) (x : Nozzle) → has_float (nozzle_data s x) ≡ false
+no_float_nozzle s x = rw (no_float_if (last_of x.point x.number s.nozzles)) refl
+
+no_float_point : (connected : Bool) (s : SiteState) (e : PointEntry) (v : PointView)
+    → has_float (point_data connected (nozzles_data s e) e v) ≡ false
+no_float_point connected s e v =
     rw (
       no_float_fuelling v,
       no_float_if v.holder,
       no_float_if v.out,
+      no_float_mapped (nozzle_data s) (nozzles_of_point e) (no_float_nozzle s),
       no_float_if (product_out e.nozzles v.out),
     ) refl
 
@@ -57,7 +70,7 @@ no_float_points s xs (e ∷ es) = by (view_point s e.number) refl (no_float_poin
         → items_have_float (items_of (points_data s xs (e ∷ es))) ≡ false
     by None is rest = rw is rest
     by (Some v) is rest =
-        rw is (rw (no_float_point (is_connected xs e.number) e v) rest)
+        rw is (rw (no_float_point (is_connected xs e.number) s e v) rest)
 
 no_float_session : (x : PeerSession) → has_float (session_data x) ≡ false
 no_float_session x = rw (no_float_text x.since) refl
@@ -67,11 +80,12 @@ no_float_transaction x =
     rw (no_float_if x.sale.prepaid, no_float_if (till_of x.sale.standing)) refl
 
 pub no_float_site : (b : Book) (unpaid : List NamedSale) (connections : ℕ)
-    (sessions : List PeerSession) (opened seal : Option (List ℕ))
-    → has_float (site_data b unpaid connections sessions opened seal) ≡ false
-no_float_site b unpaid connections sessions opened seal =
+    (sessions : List PeerSession) (at opened seal : Option (List ℕ))
+    → has_float (site_data b unpaid connections sessions at opened seal) ≡ false
+no_float_site b unpaid connections sessions at opened seal =
     let s : SiteState = site_of_book b in
     rw (
+      no_float_text at,
       no_float_text opened,
       no_float_text seal,
       no_float_points s sessions b.config.points,
@@ -79,6 +93,7 @@ no_float_site b unpaid connections sessions opened seal =
       no_float_mapped session_data sessions no_float_session,
       no_float_mapped (till_data s) tills (λ t. refl),
       no_float_mapped transaction_data unpaid no_float_transaction,
+      no_float_sum (cents_of unpaid),
     ) refl
 
 pub no_float_unpaid : (point : Option ℕ) (unpaid : List NamedSale)

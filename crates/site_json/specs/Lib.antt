@@ -1,5 +1,6 @@
 pub mod Figures
 pub mod Sessions
+pub mod Nozzles
 pub mod Points
 pub mod Tills
 pub mod Transactions

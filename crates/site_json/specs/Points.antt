@@ -16,9 +16,10 @@ use Rattle.site_base.specs.Members as numbered
 use Rattle.site_base.specs.Ranges.{is_between}
 use Rattle.site_base.specs.States.{state_number}
 use Rattle.written_site.specs.SiteState.{SiteState, view_point}
-use Rattle.day_report.specs.Figures.{figure}
+use Rattle.day_report.specs.Figures.{figure, listed}
 use Rattle.site_json.specs.declared.sessions.PeerSession.{PeerSession}
 use Rattle.site_json.specs.Figures.{figure_if}
+use Rattle.site_json.specs.Nozzles.{nozzles_data}
 use Rattle.site_json.specs.Sessions.{is_connected}
 
 -- the name of a state
@@ -70,19 +71,21 @@ fuelling_data v =
     (member (codes "test") (boolean v.test)
     no_members))))))))
 
--- a point of the configuration as a read shows it, whose dispenser is connected or not
-abbrev pub point_data : Bool → PointEntry → PointView → Data
-point_data connected e v =
+-- a point of the configuration as a read shows it, whose dispenser is connected or not, with these
+-- nozzles
+abbrev pub point_data : Bool → List Data → PointEntry → PointView → Data
+point_data connected nozzles e v =
     object
     (member (codes "dispenser connected") (boolean connected)
     (member (codes "fuelling") (fuelling_data v)
     (member (codes "holder") (figure_if v.holder)
     (member (codes "nozzle") (figure_if v.out)
+    (member (codes "nozzles") (listed nozzles)
     (member (codes "number") (figure e.number)
     (member (codes "product") (figure_if (product_out e.nozzles v.out))
     (member (codes "state") (figure (state_number v.state))
     (member (codes "state name") (string (state_word v.state))
-    no_members))))))))
+    no_members)))))))))
 
 -- a configured point as the site has it, beside these sessions
 abbrev pub point_shown : SiteState → List PeerSession → PointEntry → List Data
@@ -90,7 +93,8 @@ point_shown s sessions e = data_shown e (view_point s e.number)
   where
     data_shown : PointEntry → Option PointView → List Data
     data_shown e None = []
-    data_shown e (Some v) = point_data (is_connected sessions e.number) e v ∷ []
+    data_shown e (Some v) =
+        point_data (is_connected sessions e.number) (nozzles_data s e) e v ∷ []
 
 -- the configured points, in their order
 abbrev pub points_data : SiteState → List PeerSession → List PointEntry → List Data

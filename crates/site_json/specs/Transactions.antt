@@ -1,5 +1,5 @@
 -- A transaction as JSON. Members stand in the order of their names.
-use Rattle.std.specs.Prelude.{ℕ, ◌==◌, List, Option, Some, None, codes, filter, map}
+use Rattle.std.specs.Prelude.{ℕ, ◌==◌, List, Option, Some, None, codes, filter, map, sum_by}
 use Rattle.serde_json.specs.Data.{Data, string, object, member, no_members}
 use Rattle.site_base.specs.declared.state.Status.{Status}
 use Rattle.site_base.specs.declared.state.Status.TheVariants.{Payable, Locked, Cleared}
@@ -40,3 +40,7 @@ sales_at (Some p) sales = filter (λ x. x.point == p) sales
 -- the unpaid transactions of a point, or of all, as JSON
 abbrev pub unpaid_data : Option ℕ → List NamedSale → Data
 unpaid_data point unpaid = listed (transactions_data (sales_at point unpaid))
+
+-- the cents of these transactions, in all
+abbrev pub cents_of : List NamedSale → ℕ
+cents_of sales = sum_by (λ (x : NamedSale). x.sale.cents) sales

@@ -2,9 +2,9 @@
 
 ghost use Rattle.std.specs.Prelude.{◌≡◌, IfOk, option_copied};
 ghost use Rattle.serde_json.specs.View.{view};
-ghost use Rattle.site_json.specs.Figures.{figure_if, text_if};
+ghost use Rattle.site_json.specs.Figures.{figure_if, sum_data, text_if};
 
-use serde_json::Value;
+use serde_json::{Number, Value};
 use stamps::Stamp;
 use std::alloc::{AllocError, Global};
 
@@ -14,6 +14,16 @@ pub fn figure_if(figure: Option<u64>) -> Value
 {
     match figure {
         Some(n) => Value::from(n),
+        None => Value::Null,
+    }
+}
+
+/// A sum of figures; null where it has more than 64 bits.
+pub fn sum_value(sum: u128) -> Value
+    ensures { view result ≡ sum_data sum }
+{
+    match Number::from_u128(sum) {
+        Some(sum) => Value::Number(sum),
         None => Value::Null,
     }
 }

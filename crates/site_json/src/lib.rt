@@ -4,6 +4,7 @@
 #![tactic(auto)]
 
 mod figures;
+mod nozzles;
 mod points;
 mod sessions;
 mod tills;
@@ -14,6 +15,6 @@ mod whole_site;
 pub use figures::time_if;
 pub use points::state_word;
 pub use sessions::PeerSession;
-pub use transactions::status_word;
+pub use transactions::{cents_of, status_word};
 pub use unpaid::unpaid_text;
 pub use whole_site::{site_text, site_value};

@@ -1,13 +1,16 @@
 //! The fuelling points as JSON.
 
-ghost use Rattle.std.specs.Prelude.{◌≡◌, ◌++◌, map, IfOk, OnOk};
+ghost use Rattle.std.specs.Prelude.{◌≡◌, ◌≤◌, ◌++◌, length, map, IfOk, OnOk};
 ghost use Rattle.serde_json.specs.View.{view};
+ghost use Rattle.site_base.specs.declared.limits.TheConstants.{NOZZLES};
 ghost use Rattle.site_book.specs.Book.{site_of_book};
+ghost use Rattle.site_json.specs.Nozzles.{nozzles_data};
 ghost use Rattle.site_json.specs.Points.{cents_so_far, fuelling_data, point_data, point_shown};
 ghost use Rattle.site_json.specs.Points.{points_data, preset_cents, preset_millilitres};
 ghost use Rattle.site_json.specs.Points.{product_out, state_word};
 
 use crate::figures::{figure_if, widen};
+use crate::nozzles::nozzle_values;
 use crate::sessions::{PeerSession, is_connected};
 use serde_json::{Value, json};
 use site_base::{
@@ -22,13 +25,12 @@ pub fn point_values(
     alloc: Global,
     book: &SiteBook,
     sessions: &[PeerSession],
-    points: &[PointEntry],
 ) -> Result<Vec<Value>, NoMemory>
-    ensures { IfOk result (λ values.
-        map view values.items ≡ points_data (site_of_book book.now) sessions.now points.now) }
+    ensures { IfOk result (λ values. map view values.items
+        ≡ points_data (site_of_book book.now) sessions.now book.now.config.points) }
 {
     let mut values = Vec::new(alloc);
-    for point in points {
+    for point in book.config().points() {
         add_point(alloc, book, sessions, point, &mut values)?;
     }
     Ok(values)
@@ -42,26 +44,30 @@ fn add_point(
     point: &PointEntry,
     values: &mut Vec<Value>,
 ) -> Result<(), NoMemory>
+    requires { length point.now.nozzles ≤ NOZZLES }
     ensures { OnOk result (map view values.new.items ≡ map view values.old.items
         ++ point_shown (site_of_book book.now) sessions.now point.now) }
 {
     if let Some(shown) = book.point(point.number) {
         let is_connected = is_connected(sessions, point.number);
-        values.push(point_value(alloc, is_connected, point, &shown)?)?;
+        let nozzles = nozzle_values(alloc, book, point)?;
+        values.push(point_value(alloc, is_connected, nozzles, point, &shown)?)?;
     }
     Ok(())
 }
 
-/// A point as a read shows it, whose dispenser is connected or not.
+/// A point as a read shows it, whose dispenser is connected or not, with these nozzles.
 fn point_value(
     alloc: Global,
     is_connected: bool,
+    nozzles: Vec<Value>,
     point: &PointEntry,
     shown: &PointView,
 ) -> Result<Value, AllocError>
-    ensures { IfOk result (λ value.
-        view value ≡ point_data is_connected point.now shown.now) }
+    ensures { IfOk result (λ value. view value
+        ≡ point_data is_connected (map view nozzles.items) point.now shown.now) }
 {
+    let nozzles = Value::Array(nozzles);
     let fuelling = fuelling_value(alloc, shown)?;
     let holder = figure_if(till_number(shown.holder));
     let nozzle = figure_if(nozzle_number(shown.out));
@@ -71,6 +77,7 @@ fn point_value(
         "fuelling": fuelling,
         "holder": holder,
         "nozzle": nozzle,
+        "nozzles": nozzles,
         "number": point.number.get(),
         "product": product,
         "state": shown.state.number(),

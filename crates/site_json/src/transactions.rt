@@ -3,8 +3,8 @@
 ghost use Rattle.std.specs.Prelude.{◌≡◌, map, IfOk, Some};
 ghost use Rattle.serde_json.specs.View.{view};
 ghost use Rattle.transaction_buffer.specs.Sales.{status_of, till_of};
-ghost use Rattle.site_json.specs.Transactions.{sales_at, status_word, transaction_data};
-ghost use Rattle.site_json.specs.Transactions.{transactions_data};
+ghost use Rattle.site_json.specs.Transactions.{cents_of, sales_at, status_word};
+ghost use Rattle.site_json.specs.Transactions.{transaction_data, transactions_data};
 
 use crate::figures::{figure_if, widen};
 use serde_json::{Value, json};
@@ -85,4 +85,15 @@ fn till_of(standing: &Standing) -> Option<u64>
         Standing::LockedBy(till) => Some(u64::from(till.get())),
         Standing::ClearedBy(till, _) => Some(u64::from(till.get())),
     }
+}
+
+/// The cents of these transactions, in all.
+pub fn cents_of(sales: &[NamedSale]) -> u128
+    ensures { result ≡ cents_of sales.now }
+{
+    let mut cents: u128 = 0;
+    for sale in sales {
+        cents += u128::from(sale.sale.cents.get());
+    }
+    cents
 }

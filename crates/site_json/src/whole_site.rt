@@ -13,11 +13,11 @@ ghost use Rattle.site_json.specs.SiteData.{site_data, whole_data};
 ghost use Rattle.site_json.specs.Tills.{tills_data};
 ghost use Rattle.site_json.specs.Transactions.{transactions_data};
 
-use crate::figures::{text_if, time_if};
+use crate::figures::{sum_value, text_if, time_if};
 use crate::points::point_values;
 use crate::sessions::{PeerSession, session_values};
 use crate::tills::till_values;
-use crate::transactions::transaction_values;
+use crate::transactions::{cents_of, transaction_values};
 use day_report::product_values;
 use serde_json::{Value, json};
 use site_base::NoMemory;
@@ -25,7 +25,7 @@ use site_book::{NamedSale, SiteBook};
 use stamps::Stamp;
 use std::alloc::{AllocError, Global};
 
-/// The site of a book: its points, its products with the figures of a read, its tills with their
+/// The site of a book at this time, if it is known: its points, its products with the figures of a read, its tills with their
 /// clears in the open shift, that shift, how many rows there are; with these transactions, which
 /// the caller has found unpaid, so many connections, these sessions, and of its history, if there
 /// is one, the time of the open shift's first row and the last seal.
@@ -35,13 +35,15 @@ pub fn site_value(
     unpaid: &[NamedSale],
     connections: usize,
     sessions: &[PeerSession],
+    at: Option<Stamp>,
     opened: Option<Stamp>,
     seal: Option<&str>,
 ) -> Result<Value, NoMemory>
     ensures { IfOk result (λ value. view value
-        ≡ site_data book.now unpaid.now connections sessions.now opened
+        ≡ site_data book.now unpaid.now connections sessions.now at opened
         (option_copied seal.entry)) }
 {
+    let at = time_if(alloc, &at)?;
     let opened = time_if(alloc, &opened)?;
     let seal = text_if(alloc, seal)?;
     let points = points_value(alloc, book, sessions)?;
@@ -49,9 +51,11 @@ pub fn site_value(
     let products = products_value(alloc, book)?;
     let tills = tills_value(alloc, book)?;
     let transactions = transactions_value(alloc, unpaid)?;
+    let unpaid = sum_value(cents_of(unpaid));
     Ok(whole_value(
         alloc,
         book,
+        at,
         connections,
         opened,
         seal,
@@ -60,6 +64,7 @@ pub fn site_value(
         sessions,
         tills,
         transactions,
+        unpaid,
     )?)
 }
 
@@ -70,22 +75,24 @@ pub fn site_text(
     unpaid: &[NamedSale],
     connections: usize,
     sessions: &[PeerSession],
+    at: Option<Stamp>,
     opened: Option<Stamp>,
     seal: Option<&str>,
 ) -> Result<String, NoMemory>
     ensures { IfOk result (λ text. string_bytes text ≡ compact_text
-        (site_data book.now unpaid.now connections sessions.now opened
+        (site_data book.now unpaid.now connections sessions.now at opened
         (option_copied seal.entry))) }
 {
-    let site = site_value(alloc, book, unpaid, connections, sessions, opened, seal)?;
+    let site = site_value(alloc, book, unpaid, connections, sessions, at, opened, seal)?;
     Ok(site.to_string(alloc)?)
 }
 
-/// The book's figures, with so many connections, this time of the open shift's first row, this last
-/// seal, and with these lists of what stands at its site.
+/// The book's figures at this time, with so many connections, this time of the open shift's first
+/// row, this last seal, these lists of what stands at its site, and these cents of what is unpaid.
 fn whole_value(
     alloc: Global,
     book: &SiteBook,
+    at: Value,
     connections: usize,
     opened: Value,
     seal: Value,
@@ -94,14 +101,16 @@ fn whole_value(
     sessions: Value,
     tills: Value,
     transactions: Value,
+    unpaid: Value,
 ) -> Result<Value, AllocError>
-    ensures { IfOk result (λ value. view value ≡ whole_data book.now connections
+    ensures { IfOk result (λ value. view value ≡ whole_data book.now (view at) connections
         (view opened) (view seal) (view points) (view products) (view sessions) (view tills)
-        (view transactions)) }
+        (view transactions) (view unpaid)) }
 {
     let rows = book.kept_len();
     let shift = book.open_shift().get();
     json!(in alloc; {
+        "at": at,
         "connections": connections,
         "opened": opened,
         "points": points,
@@ -111,7 +120,8 @@ fn whole_value(
         "sessions": sessions,
         "shift": shift,
         "tills": tills,
-        "transactions": transactions
+        "transactions": transactions,
+        "unpaid cents": unpaid
     })
 }
 
@@ -120,8 +130,7 @@ fn points_value(alloc: Global, book: &SiteBook, sessions: &[PeerSession]) -> Res
     ensures { IfOk result (λ value. view value
         ≡ listed (points_data (site_of_book book.now) sessions.now book.now.config.points)) }
 {
-    let points = book.config().points();
-    Ok(Value::Array(point_values(alloc, book, sessions, points)?))
+    Ok(Value::Array(point_values(alloc, book, sessions)?))
 }
 
 /// These sessions.

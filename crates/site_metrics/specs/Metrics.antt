@@ -1,6 +1,6 @@
 -- A site's figures as OpenMetrics text: families of samples, one after another.
 use Rattle.std.specs.Prelude.{ℕ, ◌-◌, ◌==◌, Bool, false, List, [], ◌∷◌, ◌++◌, Option, Some, None}
-use Rattle.std.specs.Prelude.{codes, count_by, decimal, flat_map, length, slice_index, sum_by}
+use Rattle.std.specs.Prelude.{codes, count_by, decimal, flat_map, length, slice_index}
 use Rattle.site_base.specs.declared.config.PointEntry.{PointEntry}
 use Rattle.site_base.specs.declared.numbers.TheConstants.{GREATEST_SHIFT}
 use Rattle.site_base.specs.declared.state.PointState.{PointState}
@@ -17,6 +17,7 @@ use Rattle.site_book.specs.declared.named_sale.NamedSale.{NamedSale}
 use Rattle.written_site.specs.SiteState.{open_shift, view_point}
 use Rattle.site_json.specs.declared.sessions.PeerSession.{PeerSession}
 use Rattle.site_json.specs.Points.{state_word}
+use Rattle.site_json.specs.Transactions.{cents_of}
 
 -- ---- the form
 
@@ -110,7 +111,7 @@ unpaid_lines count cents =
     ++ gauge (codes "witsomar_unpaid_cents") (codes "Cents of the unpaid transactions.") cents
 
 abbrev pub unpaid_text : List NamedSale → List ℕ
-unpaid_text unpaid = unpaid_lines (length unpaid) (sum_by (λ (x : NamedSale). x.sale.cents) unpaid)
+unpaid_text unpaid = unpaid_lines (length unpaid) (cents_of unpaid)
 
 -- the open shift, and how many more can be opened
 unfoldable pub shifts_lines : ℕ → ℕ → List ℕ

@@ -1,6 +1,6 @@
 //! The figures of a site, family after family.
 
-ghost use Rattle.std.specs.Prelude.{◌≡◌, ◌++◌, IfOk, OnOk, flat_map, string_bytes, sum_by};
+ghost use Rattle.std.specs.Prelude.{◌≡◌, ◌++◌, IfOk, OnOk, flat_map, string_bytes};
 ghost use Rattle.device_map.specs.declared.ids.TheConstants.{DISPENSER_SUBNET, TILL_SUBNET};
 ghost use Rattle.site_book.specs.Book.{site_of_book};
 ghost use Rattle.written_site.specs.SiteState.{view_point};
@@ -15,7 +15,7 @@ use crate::families::{
 use crate::kinds::{is_dispenser, is_till};
 use site_base::{FpNo, GREATEST_SHIFT, PointState};
 use site_book::{NamedSale, SiteBook};
-use site_json::{PeerSession, state_word};
+use site_json::{PeerSession, cents_of, state_word};
 use std::alloc::{AllocError, Global};
 
 /// The states of a point, in the order of their numbers.
@@ -165,17 +165,6 @@ fn put_unpaid(text: &mut String, unpaid: &[NamedSale]) -> Result<(), AllocError>
     ensures { OnOk result (string_bytes text.new ≡ string_bytes text.old ++ unpaid_text unpaid.now) }
 {
     put_unpaid_lines(text, unpaid.len() as u128, cents_of(unpaid))
-}
-
-/// What these transactions come to.
-fn cents_of(unpaid: &[NamedSale]) -> u128
-    ensures { result ≡ sum_by (λ x. x.sale.cents) unpaid.now }
-{
-    let mut cents: u128 = 0;
-    for sale in unpaid {
-        cents += u128::from(sale.sale.cents.get());
-    }
-    cents
 }
 
 /// The open shift, and how many more can be opened.

@@ -99,14 +99,15 @@ abbrev pub IsHealthAnswer : Bool → Response → Type 0
 IsHealthAnswer false response = IsLine 200 (codes "ok\n") response
 IsHealthAnswer true response = IsLine 503 (codes "the book is full\n") response
 
--- What requests are answered from: a book, of which these are the unpaid transactions, so many
--- connections, these sessions, and of its history the time of the open shift's first row and the
--- last seal.
+-- What requests are answered from: a book at this time, of which these are the unpaid transactions,
+-- so many connections, these sessions, and of its history the time of the open shift's first row and
+-- the last seal.
 pub record Shown : Type 0 where
   pub book : Book
   pub unpaid : List NamedSale
   pub connections : ℕ
   pub sessions : List PeerSession
+  pub at : Option (List ℕ)
   pub opened : Option (List ℕ)
   pub seal : Option (List ℕ)
 
@@ -116,7 +117,7 @@ IsMetricsAnswer x response =
     IsResponse 200 metrics_fields (metrics_text x.book x.unpaid x.connections x.sessions) response
 
 abbrev pub shown_data : Shown → Data
-shown_data x = site_data x.book x.unpaid x.connections x.sessions x.opened x.seal
+shown_data x = site_data x.book x.unpaid x.connections x.sessions x.at x.opened x.seal
 
 -- none of the paths that are answered
 pub record IsUnknown (path : List ℕ) : Type 0 where

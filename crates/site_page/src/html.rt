@@ -103,7 +103,7 @@ main{display:block}article,.many article{margin:4px 0;padding:5px 8px}
 <body>
 <header><h1>Forecourt</h1><span id="shift"></span><span id="rows"></span>
 <details id="who"><summary id="peers"></summary><div id="sessions"></div></details>
-<span id="seal"></span>
+<span id="seal"></span><span id="made"></span>
 <span id="state" role="status">no answer yet</span></header>
 <noscript>This page needs JavaScript.</noscript>
 <main id="points" aria-label="fuelling points"></main>
@@ -171,11 +171,18 @@ function showSale(line, sale) {
     litres(sale.millilitres, 2) + ' l for ' + money(sale.cents) + ', ' + by;
 }
 
+// What the meters of a point read.
+function readings(point) {
+  return point.nozzles.map(nozzle => 'nozzle ' + nozzle.number + ' reads ' +
+    litres(nozzle.reading, 2) + ' l').join(', ');
+}
+
 function showPoint(tile, point, names, sales) {
   tile.style.setProperty('--c', 'var(--s' + point.state + ')');
   fill(tile, 'div', ['head row', 'marks', 'run row', 'dues'], (box, kind) => box.className = kind);
   const [head, marks, run, dues] = tile.children;
   put(part(head, 'h2', 'number'), String(point.number));
+  part(head, 'h2', 'number').title = readings(point);
   put(part(head, 'span', 'chip'), point['state name']);
   const name = point.product === null ? '' : names.get(point.product) || 'product ' + point.product;
   const nozzle = point.nozzle === null ? '' : point.nozzle + ' ' + name;
@@ -247,8 +254,10 @@ function show(site) {
   fill(at('sessions'), 'p', site.sessions, showSession);
   put(at('seal'), site.seal === null ? '' : 'last seal ' + site.seal.slice(0, SEAL_SHOWN));
   at('seal').title = site.seal || '';
+  put(at('made'), site.at === null ? '' : 'at ' + clock(new Date(site.at)));
+  at('made').title = site.at || '';
   const unpaid = site.transactions.length;
-  put(at('state'), unpaid + ' unpaid');
+  put(at('state'), unpaid + ' unpaid' + (unpaid === 0 ? '' : ' ' + money(site['unpaid cents'])));
   document.title = '(' + unpaid + ') Forecourt';
 }
 

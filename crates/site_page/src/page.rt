@@ -34,6 +34,7 @@ pub struct Page<'a> {
     unpaid: &'a [NamedSale],
     connections: usize,
     sessions: &'a [PeerSession],
+    at: Option<Stamp>,
     opened: Option<Stamp>,
     seal: Option<&'a str>,
 }
@@ -49,13 +50,14 @@ impl<'a> Model for Page<'a> {
       unpaid = p.unpaid.now;
       connections = p.connections;
       sessions = p.sessions.now;
+      at = p.at;
       opened = p.opened;
       seal = option_copied p.seal;
     } };
 }
 
 impl<'a> Page<'a> {
-    /// The page of a book's site, with these transactions, which the caller has found unpaid, so
+    /// The page of a book's site at this time, if it is known, with these transactions, which the caller has found unpaid, so
     /// many connections, these sessions, and of its history the time of the open shift's first row
     /// and the last seal.
     pub fn new(
@@ -64,6 +66,7 @@ impl<'a> Page<'a> {
         unpaid: &'a [NamedSale],
         connections: usize,
         sessions: &'a [PeerSession],
+        at: Option<Stamp>,
         opened: Option<Stamp>,
         seal: Option<&'a str>,
     ) -> Page<'a>
@@ -71,6 +74,7 @@ impl<'a> Page<'a> {
         ensures unpaid { result.unpaid ≡ unpaid.now }
         ensures connections { result.connections ≡ connections }
         ensures sessions { result.sessions ≡ sessions.now }
+        ensures at { result.at ≡ at }
         ensures opened { result.opened ≡ opened }
         ensures seal { result.seal ≡ option_copied seal.entry }
     {
@@ -80,6 +84,7 @@ impl<'a> Page<'a> {
             unpaid,
             connections,
             sessions,
+            at,
             opened,
             seal,
         }
@@ -95,6 +100,7 @@ impl<'a> Page<'a> {
             unpaid: self.unpaid,
             connections: self.connections,
             sessions: self.sessions,
+            at: self.at,
             opened: self.opened,
             seal: self.seal,
         }
@@ -134,6 +140,7 @@ impl<'a> Page<'a> {
             self.unpaid,
             self.connections,
             self.sessions,
+            self.at,
             self.opened,
             self.seal,
         ) {

@@ -6,5 +6,5 @@ pub const POLICY: &str = concat!(
     "default-src 'none'; base-uri 'none'; form-action 'none'; frame-ancestors 'none'; ",
     "connect-src 'self'; ",
     "style-src 'sha256-2rG21zvoTGAWSgZyL2P60PwxIOcCuoyuBxWelo6cflg='; ",
-    "script-src 'sha256-9uJQgxvUrmEPVcSa8TbtF347m44gc0vDwIs0orSPLa0='",
+    "script-src 'sha256-BnCCV8aKnarmILgI377sR6d2zp6aVnfEKLCPodmIjGA='",
 );

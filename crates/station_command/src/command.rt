@@ -1,4 +1,4 @@
-//! `forecourt station [FILE] [--history FOLDER] [--port N] [--doors FOLDER] [--page N]
+//! `forecourt station [FILE] [--history FOLDER] [--port N] [--doors FOLDER] [--page N] [--feed N]
 //! [--idle SECONDS] [--rate N] [--house T] [--release-age SECONDS] [--lost SECONDS] [--detached]
 //! [--json]`.
 
@@ -10,6 +10,7 @@ ghost use Rattle.station_command.specs.Histories.{IsFound};
 
 use crate::doors::open_doors;
 use crate::error_lines::{ErrorLines, Reporting};
+use crate::feed_start::read_fed;
 use crate::found::{FoundHistory, print_found};
 use crate::histories::open_station;
 use crate::input_watch::InputWatch;
@@ -17,10 +18,11 @@ use command_line::StationOptions;
 use day_base::{DayFault, HousePlan, OptionFault, ReportForm, StationPlan, exit_day};
 use devices::Counted;
 use history_files::HistoryDisk;
-use journal::Opened;
-use peer_connections::{Connections, Patience, PeerStream};
+use journal::{Disk, Opened};
+use peer_connections::{Connections, FedRows, Patience, PeerStream};
 use program_io::{COMMAND_LINE, FAULT, TURNS, exit_with};
 use site_base::{SiteConfig, TillNo};
+use site_book::SiteBook;
 use station_days::{station_day, to_day_fault};
 use station_server::{Doors, ServerFault, StationServer};
 use std::fs::File;
@@ -80,7 +82,13 @@ struct Plans {
 
 impl Plans {
     fn read(options: &StationOptions<'_>) -> Result<Plans, OptionFault> {
-        let station = StationPlan::read(options.port, options.page, options.idle, options.rate)?;
+        let station = StationPlan::read(
+            options.port,
+            options.page,
+            options.feed,
+            options.idle,
+            options.rate,
+        )?;
         let house = HousePlan::read(options.house, options.release_age, options.lost)?;
         Ok(Plans { station, house })
     }
@@ -124,6 +132,14 @@ fn run_opened<
         Err(status) => return status,
     };
     warn_of_no_doors(rt, options.doors, &open.doors);
+    let has_feed = plans.station.feed.is_some() || open.doors.has_feed();
+    let fed = match find_fed(rt, has_feed, options.history, opened.station.book()) {
+        Ok(fed) => fed,
+        Err(status) => {
+            open.sockets.remove(rt);
+            return status;
+        }
+    };
     if let Some(till) = house {
         open.gates.set_house(till);
     }
@@ -140,11 +156,24 @@ fn run_opened<
         lines: &lines,
     };
     let end = serve_on(
-        rt, &reporting, threads, input, opened, found, open.doors, plans, options,
+        rt, &reporting, threads, input, opened, found, fed, open.doors, plans, options,
     );
     lines.end(threads);
     open.sockets.remove(rt);
     exit_day(rt, end)
+}
+
+/// What the feed's peers are told at first, if there is to be a feed; or how the program ends.
+fn find_fed<R: Files + Eprint + AllocGlobal>(
+    rt: &R,
+    has_feed: bool,
+    history: Option<&str>,
+    book: &SiteBook,
+) -> Result<Option<FedRows>, ExitCode> {
+    if !has_feed {
+        return Ok(None);
+    }
+    Ok(Some(read_fed(rt, history, book)?))
 }
 
 /// Says that the folder of the doors, if there is one, has none: each node may speak over TCP then.
@@ -169,7 +198,17 @@ fn find_house(config: &SiteConfig, number: Option<u8>) -> Result<Option<TillNo>,
     Err(number)
 }
 
-/// Listens, and serves a day of this station, of whose history this was found.
+/// If there is a feed, its peers are told these rows at first.
+fn begin_feed<D: Disk>(connections: &mut Connections<D, PeerStream>, fed: Option<FedRows>)
+    ensures { connections.new.stored ≡ connections.old.stored }
+{
+    if let Some(fed) = fed {
+        connections.begin_feed(fed);
+    }
+}
+
+/// Listens, and serves a day of this station, of whose history this was found. If there is a feed,
+/// its peers are told these rows at first.
 fn serve_on<R: StationHost, T: Threads + Wait + Sync, I: Read + Send + Drop + 'static>(
     rt: &R,
     reporting: &Reporting<'_, R>,
@@ -177,6 +216,7 @@ fn serve_on<R: StationHost, T: Threads + Wait + Sync, I: Read + Send + Drop + 's
     input: I,
     opened: Opened<HistoryDisk<'_, R>>,
     found: FoundHistory,
+    fed: Option<FedRows>,
     doors: Doors,
     plans: Plans,
     options: StationOptions<'_>,
@@ -192,6 +232,7 @@ fn serve_on<R: StationHost, T: Threads + Wait + Sync, I: Read + Send + Drop + 's
         plans.station.rate,
         plans.patience(),
     )?;
+    begin_feed(&mut connections, fed);
     let end = serve_peers(
         rt,
         reporting,
@@ -328,20 +369,38 @@ fn serve_day<R: StationHost, T: Wait>(
     )
 }
 
-/// Listens for peers, also at these doors, and for browsers if there is a page.
+/// Listens for peers, also at these doors, for browsers if there is a page, and for peers of the
+/// feed if there is one.
 fn listen<R: Net + Clock + RandomSource + AllocGlobal>(
     rt: &R,
     doors: Doors,
     plan: StationPlan,
 ) -> Result<StationServer, ServerFault> {
+    let has_feed = plan.feed.is_some() || doors.has_feed();
     let mut server = StationServer::bind(rt, rt, rt.alloc(), plan.port, doors)?;
-    if let Some(port) = plan.page {
-        if let Err(fault) = server.bind_page(rt, rt, port) {
+    match listen_for_others(rt, &mut server, plan, has_feed) {
+        Ok(()) => Ok(server),
+        Err(fault) => {
             server.close();
-            return Err(fault);
+            Err(fault)
         }
     }
-    Ok(server)
+}
+
+/// Listens for browsers if there is a page, and for peers of the feed if there is one.
+fn listen_for_others<R: Net + RandomSource>(
+    rt: &R,
+    server: &mut StationServer,
+    plan: StationPlan,
+    has_feed: bool,
+) -> Result<(), ServerFault> {
+    if let Some(port) = plan.page {
+        server.bind_page(rt, rt, port)?;
+    }
+    if has_feed {
+        server.bind_feed(rt, plan.feed)?;
+    }
+    Ok(())
 }
 
 /// How the day's report is written.

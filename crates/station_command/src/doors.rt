@@ -1,4 +1,5 @@
-//! The doors of a station: which nodes have one, and the sockets at which it listens there.
+//! The doors of a station: which nodes have one, the feed's, and the sockets at which it listens
+//! there.
 
 ghost use Rattle.program_io.specs.Statuses.{IsFailed};
 ghost use Rattle.std.specs.Prelude.{IfErr};
@@ -17,6 +18,9 @@ use std::os::unix::fs::FileTypeExt;
 use std::process::ExitCode;
 use std::rt::Files;
 use std::{fs, io};
+
+/// The name of the feed's door.
+const FEED_DOOR: &str = "feed";
 
 /// The doors of a station, who may speak at each, and the sockets that were made for them.
 #[derive(Drop)]
@@ -79,7 +83,7 @@ enum SocketFault {
 }
 
 /// Listens at the doors of this folder, if there is one, or says why not, and how the program ends:
-/// at the socket of each subfolder that has the name of a node.
+/// at the socket of each subfolder that has the name of a node, or of the feed's door.
 pub fn open_doors<R: Files<File = File> + Net + Eprint + AllocGlobal>(
     rt: &R,
     folder: Option<&str>,
@@ -140,10 +144,10 @@ fn list_folders<R: Files + AllocGlobal>(rt: &R, folder: &str) -> Result<Vec<Stri
     Ok(names)
 }
 
-/// The first of these names that is no node's is a fault.
+/// The first of these names that is no node's, and not that of the feed's door, is a fault.
 fn check_names(names: &[String]) -> Result<(), DoorFault> {
     for name in names {
-        if node_named(name.as_str()).is_none() {
+        if name.as_str() != FEED_DOOR && node_named(name.as_str()).is_none() {
             return Err(DoorFault::NoNode(name.clone()?));
         }
     }
@@ -166,16 +170,14 @@ fn lock_doors<R: Files<File = File> + AllocGlobal>(
     }
 }
 
-/// Listens at the door of this name, and lets its node speak there alone.
+/// Listens at the door of this name, and lets its node speak there alone. At the feed's nobody
+/// speaks.
 fn open_door<R: Files<File = File> + Net + AllocGlobal>(
     rt: &R,
     folder: &str,
     name: String,
     open: &mut OpenDoors,
 ) -> Result<(), DoorFault> {
-    let Some(node) = node_named(name.as_str()) else {
-        return Err(DoorFault::NoNode(name));
-    };
     let path = format!(in rt.alloc(); "{folder}/{name}/socket")?;
     open.sockets.paths.reserve(1)?;
     match listen_at(rt, path.as_str()) {
@@ -184,13 +186,25 @@ fn open_door<R: Files<File = File> + Net + AllocGlobal>(
                 .paths
                 .push(path)
                 .map_err(|_| DoorFault::NoMemory)?;
-            let _ = open.gates.add_door(node)?;
-            open.doors.add(listener)?;
-            Ok(())
+            add_door(name, listener, open)
         }
         Err(SocketFault::InUse) => Err(DoorFault::InUse(name)),
         Err(SocketFault::Deaf) => Err(DoorFault::Deaf(name)),
     }
+}
+
+/// The door of this name has this listener.
+fn add_door(name: String, listener: UnixListener, open: &mut OpenDoors) -> Result<(), DoorFault> {
+    if name.as_str() == FEED_DOOR {
+        open.doors.set_feed(listener);
+        return Ok(());
+    }
+    let Some(node) = node_named(name.as_str()) else {
+        return Err(DoorFault::NoNode(name));
+    };
+    let _ = open.gates.add_door(node)?;
+    open.doors.add(listener)?;
+    Ok(())
 }
 
 /// The node of the door of this name: `till-01` to `till-32`, `dispenser-01` to `dispenser-64`.

@@ -8,6 +8,7 @@
 mod command;
 mod doors;
 mod error_lines;
+mod feed_start;
 mod found;
 mod histories;
 mod input_watch;

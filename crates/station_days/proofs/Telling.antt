@@ -46,15 +46,23 @@ nobody_signed g opens moves off left t =
         let held = tills_have g opens moves off t is in
         absurd (let never : None ≡ Some held.session = sym (left held.key) ∙ held.there in cc)
 
+-- the text of these ports
+pub same_places : (port port' page page' feed feed' : Option ℕ) → port ≡ port' → page ≡ page'
+    → feed ≡ feed' → places_text port page feed ≡ places_text port' page' feed'
+same_places port port' page page' feed feed' one two three =
+    ap (λ (n : Option ℕ). places_text n page feed) one
+    ∙ ap (λ (n : Option ℕ). places_text port' n feed) two
+    ∙ ap (λ (n : Option ℕ). places_text port' page' n) three
+
 -- where it listens was written, and then the report
-pub tells_station : (g : GateState) (opens : Book) (u v w : Option (List ℕ)) (said port : Option ℕ)
-    (page_said page : Option ℕ) (form : ReportForm) (x : Book) (s t : StoredState)
-    → said ≡ port → page_said ≡ page → s.station ≡ opening_station g opens
+pub tells_station : (g : GateState) (opens : Book) (u v w : Option (List ℕ)) (said places : List ℕ)
+    (form : ReportForm) (x : Book) (s t : StoredState)
+    → said ≡ places → s.station ≡ opening_station g opens
     → HasNobodyOn opens
     → Reaches s t → HasNoPeer t.station → x ≡ t.station.book
-    → Appends u v (places_text said page_said)
-    → Appends v w (report_in form x) → TellsDay g opens port page form u w t.station
-tells_station g opens u v w said port page_said page form x s t same also begins off r left is line
+    → Appends u v said
+    → Appends v w (report_in form x) → TellsDay g opens places form u w t.station
+tells_station g opens u v w said places form x s t same begins off r left is line
     report =
     record {
       moves = r.moves;
@@ -63,44 +71,41 @@ tells_station g opens u v w said port page_said page form x s t same also begins
       left = subst HasNoPeer (reached_station g opens s t begins r) left;
       off = nobody_signed g opens r.moves off
           (subst HasNoPeer (reached_station g opens s t begins r) left);
-      told = Appends-then u v w (places_text port page) (report_in form (day_book g opens r.moves))
-          (subst (λ (o : Option ℕ). Appends u v (places_text port o)) also
-          (subst (λ (n : Option ℕ). Appends u v (places_text n page_said)) same line))
+      told = Appends-then u v w places (report_in form (day_book g opens r.moves))
+          (subst (λ (text : List ℕ). Appends u v text) same line)
           (subst (λ (y : Book). Appends v w (report_in form y))
           (reached_book g opens x s t begins r is) report);
     }
 
 -- .. and then a front of it
 pub tells_station_front : (g : GateState) (opens : Book) (u v w : Option (List ℕ))
-    (said port : Option ℕ)
-    (page_said page : Option ℕ) (form : ReportForm) (x : Book) (s t : StoredState)
-    → said ≡ port → page_said ≡ page → s.station ≡ opening_station g opens
-    → Reaches s t → x ≡ t.station.book → Appends u v (places_text said page_said)
+    (said places : List ℕ)
+    (form : ReportForm) (x : Book) (s t : StoredState)
+    → said ≡ places → s.station ≡ opening_station g opens
+    → Reaches s t → x ≡ t.station.book → Appends u v said
     → AppendsFront v w (report_in form x)
-    → TellsFront g opens port page form u w t.station
-tells_station_front g opens u v w said port page_said page form x s t same also begins r is line
+    → TellsFront g opens places form u w t.station
+tells_station_front g opens u v w said places form x s t same begins r is line
     report =
     record {
       moves = r.moves;
       leads = reached_station g opens s t begins r;
-      told = Appends-front u v w (places_text port page) (report_in form (day_book g opens r.moves))
-          (subst (λ (o : Option ℕ). Appends u v (places_text port o)) also
-          (subst (λ (n : Option ℕ). Appends u v (places_text n page_said)) same line))
+      told = Appends-front u v w places (report_in form (day_book g opens r.moves))
+          (subst (λ (text : List ℕ). Appends u v text) same line)
           (subst (λ (y : Book). AppendsFront v w (report_in form y))
           (reached_book g opens x s t begins r is) report);
     }
 
 -- a front of the lines
 pub tells_station_line : (g : GateState) (opens : Book) (u v : Option (List ℕ))
-    (said port : Option ℕ)
-    (page_said page : Option ℕ) (form : ReportForm) (s : StationState)
-    → said ≡ port → page_said ≡ page → s ≡ opening_station g opens
-    → AppendsFront u v (places_text said page_said)
-    → TellsFront g opens port page form u v s
-tells_station_line g opens u v said port page_said page form s same also begins line = record {
+    (said places : List ℕ)
+    (form : ReportForm) (s : StationState)
+    → said ≡ places → s ≡ opening_station g opens
+    → AppendsFront u v said
+    → TellsFront g opens places form u v s
+tells_station_line g opens u v said places form s same begins line = record {
   moves = [];
   leads = begins;
-  told = AppendsFront-longer u v (places_text port page) (report_in form (day_book g opens []))
-      (subst (λ (o : Option ℕ). AppendsFront u v (places_text port o)) also
-      (subst (λ (n : Option ℕ). AppendsFront u v (places_text n page_said)) same line));
+  told = AppendsFront-longer u v places (report_in form (day_book g opens []))
+      (subst (λ (text : List ℕ). AppendsFront u v text) same line);
 }

@@ -10,7 +10,7 @@ use Rattle.station_server.specs.declared.fault.ServerFault.TheVariants as server
 use Rattle.day_base.specs.declared.fault.DayFault.{DayFault}
 use Rattle.day_base.specs.declared.fault.DayFault.TheVariants.{NoConnection, NoMemory, Write}
 use Rattle.day_base.specs.declared.plan.ReportForm.{ReportForm}
-use Rattle.day_base.specs.Texts.{places_text, report_in}
+use Rattle.day_base.specs.Texts.{report_in}
 use Rattle.station.specs.Gates.{GateState}
 use Rattle.station.specs.Moves.{StationState}
 use Rattle.station.specs.Reads.{HasNoPeer}
@@ -25,10 +25,10 @@ day_station gates opens moves = after moves (opening_station gates opens)
 abbrev pub day_book : GateState → Book → List Move → Book
 day_book gates opens moves = (day_station gates opens moves).book
 
--- where it listens, and the report of the book that the day's moves led to
-abbrev pub station_text : GateState → Book → Option ℕ → Option ℕ → ReportForm → List Move → List ℕ
-station_text gates opens port page form moves =
-    places_text port page ++ report_in form (day_book gates opens moves)
+-- the text of where it listens, and the report of the book that the day's moves led to
+abbrev pub station_text : GateState → Book → List ℕ → ReportForm → List Move → List ℕ
+station_text gates opens places form moves =
+    places ++ report_in form (day_book gates opens moves)
 
 -- how a day ends whose server ends so
 abbrev pub ended_by : ServerFault → DayFault
@@ -38,18 +38,18 @@ ended_by servers.NotStored = Write writes.Failed
 
 -- the whole text of a day was written, whose moves led to this station, and in which each read of a
 -- peer found room; at its end nobody is there, and no till is signed on
-pub record TellsDay (gates : GateState) (opens : Book) (port page : Option ℕ) (form : ReportForm)
+pub record TellsDay (gates : GateState) (opens : Book) (places : List ℕ) (form : ReportForm)
     (holds holds' : Option (List ℕ)) (ended : StationState) : Type 0 where
   pub moves : List Move
   pub leads : ended ≡ day_station gates opens moves
   pub room : FindRoom moves (opening_station gates opens)
   pub left : HasNoPeer (day_station gates opens moves)
   pub off : (t : ℕ) → is_signed_on (site_of_book (day_book gates opens moves)) t ≡ false
-  pub told : Appends holds holds' (station_text gates opens port page form moves)
+  pub told : Appends holds holds' (station_text gates opens places form moves)
 
 -- a front of the text of a day was written, whose moves led to this station
-pub record TellsFront (gates : GateState) (opens : Book) (port page : Option ℕ) (form : ReportForm)
+pub record TellsFront (gates : GateState) (opens : Book) (places : List ℕ) (form : ReportForm)
     (holds holds' : Option (List ℕ)) (ended : StationState) : Type 0 where
   pub moves : List Move
   pub leads : ended ≡ day_station gates opens moves
-  pub told : AppendsFront holds holds' (station_text gates opens port page form moves)
+  pub told : AppendsFront holds holds' (station_text gates opens places form moves)

@@ -2,7 +2,7 @@
 
 ghost use Rattle.std.specs.Prelude.{◌≡◌, OnOk, false, true};
 ghost use Rattle.std.specs.Io.KnownBytes.{Appends};
-ghost use Rattle.day_base.specs.Texts.{report_in};
+ghost use Rattle.day_base.specs.Texts.{places_text, report_in};
 ghost use Rattle.devices.specs.Counted.{device_of};
 ghost use Rattle.devices.specs.Devices.{AppendsFront};
 ghost use Rattle.journal.specs.Opening.{HasNobodyOn};
@@ -22,7 +22,7 @@ use std::sync::Wait;
 use std::time::Clock;
 
 /// A day of a station that was opened at this book, with its journal if it has one, and whose
-/// server listens already: it writes where, and where its page is, serves until the day's end, ends
+/// server listens already: it writes where, and where its page and its feed are, serves until the day's end, ends
 /// the sessions that are left, so that nobody is there, and writes the report of its book in this
 /// form, by the figures that its site keeps. Sessions of which nothing comes for so many seconds
 /// are ended. Where waiting for connections fails the day ends so, with `NoConnection` behind the
@@ -45,17 +45,26 @@ pub fn station_day<W: Write, T: Wait, R: Clock + Eprint, D: Disk>(
         connections.old.stored.station.book }
     requires off { HasNobodyOn connections.old.stored.station.book }
     ensures told { OnOk result (TellsDay connections.old.stored.station.gates
-        connections.old.stored.station.book server.old.port server.old.page_port form
+        connections.old.stored.station.book
+        (places_text server.old.port server.old.page_port server.old.feed_port) form
         (W.contents (device_of writer.old)) (W.contents (device_of writer.new))
         connections.new.stored.station) }
     ensures front { TellsFront connections.old.stored.station.gates
-        connections.old.stored.station.book server.old.port server.old.page_port form
+        connections.old.stored.station.book
+        (places_text server.old.port server.old.page_port server.old.feed_port) form
         (W.contents (device_of writer.old)) (W.contents (device_of writer.new))
         connections.new.stored.station }
     ensures journal { JournalGoesOn connections.old.stored.journal
         connections.new.stored.journal }
 {
-    put_places(alloc, server.port(), server.page_port(), writer, turns)?;
+    put_places(
+        alloc,
+        server.port(),
+        server.page_port(),
+        server.feed_port(),
+        writer,
+        turns,
+    )?;
     let served = server.serve(threads, rt, connections, idle);
     put_stored_report(alloc, connections, form, writer, turns)?;
     match served {

@@ -1,4 +1,4 @@
-//! The listeners of the doors.
+//! The listeners of the doors, and of the feed's.
 
 use connection_calls::{Caller, accept_at_door};
 use mio::net::{UnixListener, UnixStream};
@@ -10,10 +10,12 @@ use std::io;
 /// What a new connection of the first door is reported under; those of the others follow.
 const FIRST_DOOR: usize = usize::MAX - 1_024;
 
-/// The listeners of the doors, by their places among the doors.
+/// The listeners of the doors, by their places among the doors, and that of the feed's door, if
+/// there is one.
 #[derive(Drop)]
 pub struct Doors {
     doors: Vec<Door>,
+    feed: Option<UnixListener>,
 }
 
 /// A door, and whether connections may wait there to be accepted.
@@ -28,7 +30,23 @@ impl Doors {
     pub fn new(alloc: Global) -> Doors {
         Doors {
             doors: Vec::new(alloc),
+            feed: None,
         }
+    }
+
+    /// The feed's door, at which this one listens.
+    pub fn set_feed(&mut self, listener: UnixListener) {
+        self.feed = Some(listener);
+    }
+
+    /// Is there a door of the feed?
+    pub fn has_feed(&self) -> bool {
+        self.feed.is_some()
+    }
+
+    /// The feed's door, if there is one, which is none of these then.
+    pub(crate) fn take_feed(&mut self) -> Option<UnixListener> {
+        self.feed.take()
     }
 
     /// One more door, at which this one listens.

@@ -3,15 +3,18 @@
 //!
 //! `StationServer` waits until connections are ready (`mio`, edge-triggered). In a round it has the
 //! station hear what the ready peers sent, and then it sends what is owed, to peers that are told
-//! notices too (`peer_connections`); last the page's connections have their turn
-//! (`page_connections`). What it does with the station is made of the station's own moves alone, so
-//! each law of `station` holds of what it serves. Readiness and the clock are the system's.
+//! notices too (`peer_connections`); last the connections of the page and of the feed have their
+//! turn (`page_connections`, `feed_connections`). What it does with the station is made of the
+//! station's own moves alone, so each law of `station` holds of what it serves. Readiness and the
+//! clock are the system's.
 #![tactic(auto)]
 
 mod doors;
 mod fault;
+mod listeners;
 mod round_clock;
 mod server;
+mod sessions;
 mod sizes;
 
 pub use doors::Doors;

@@ -1,43 +1,45 @@
 //! The server: it waits until connections are ready, round after round.
 
-ghost use Rattle.std.specs.Prelude.{◌≡◌, ◌<◌, None, OnOk, Some, true};
+ghost use Rattle.std.specs.Prelude.{◌≡◌, ◌<◌, IfSome, None, OnOk, Some, length, true};
 ghost use Rattle.station.specs.declared.sizes.TheConstants.{PEERS};
 ghost use Rattle.station.specs.Reads.{HasNoPeer};
+ghost use Rattle.feed_connections.specs.Served.{AreServed};
 ghost use Rattle.journal.specs.Stored.{is_all_stored};
-ghost use Rattle.peer_connections.specs.Allowed.{IsDismissal, IsHearing, IsWelcome};
+ghost use Rattle.peer_connections.specs.Allowed.{IsDismissal, IsFollowing, IsHeard, IsHearing};
+ghost use Rattle.peer_connections.specs.Allowed.{IsWelcome};
 ghost use Rattle.peer_connections.specs.Due.{StayDue, is_due};
 ghost use Rattle.peer_connections.specs.Reaches.{Reaches, ReachesBy};
-ghost use Rattle.peer_connections.specs.Sending.{HasChange, OwedAreDue};
+ghost use Rattle.peer_connections.specs.Sending.{AreSentTo, HasChange, KeepsChanges, OwedAreDue};
+ghost use Rattle.peer_connections.specs.Sending.{OwedAreSentTo};
 
 use crate::doors::Doors;
 use crate::fault::ServerFault;
+use crate::listeners::{
+    FEED_DOOR, FEED_LISTENER, LISTENER, PAGE_LISTENER, WAKER, accept_at, add_feed_door,
+    add_feed_port, listen_for_page, listen_for_peers,
+};
 use crate::round_clock::RoundClock;
+use crate::sessions::list_sessions;
 use crate::sizes::{EVENTS_A_ROUND, ROUNDS_BEFORE_A_SWEEP, SWEEP_SECONDS};
-use connection_calls::{ACCEPTS_A_TURN, Caller, accept};
+use connection_calls::{ACCEPTS_A_TURN, Caller};
+use feed_connections::Feeds;
 use journal::{Disk, DiskFault};
 use mio::event::Event;
 use mio::net::{TcpListener, TcpStream, UnixStream};
 use mio::{Events, Interest, Poll, Token, Waker};
 use page_connections::Pages;
 use peer_connections::{Connections, PeerStream};
-use site_base::NoMemory;
-use site_json::PeerSession;
 use stamps::StampClock;
 use station::PEERS;
 use std::alloc::Global;
-use std::hash::RandomState;
 use std::io;
-use std::net::{Ipv4Addr, Net, SocketAddr, SocketAddrV4};
+use std::net::Net;
 use std::random::RandomSource;
 use std::sync::Wait;
 use std::time::{Clock, Duration, Instant};
 
-/// What a new connection is reported under.
-const LISTENER: Token = Token(usize::MAX);
-/// What the day's end is reported under.
-const WAKER: Token = Token(usize::MAX - 1);
-/// What a new connection of the page is reported under.
-const PAGE_LISTENER: Token = Token(usize::MAX - 2);
+/// The key of the feed's first connection. Those of the page are below.
+const FIRST_FEED: usize = PEERS + 1_024;
 
 /// A listener on 127.0.0.1, if there is one, those of the doors, one of the page if there is one,
 /// and what waits for their connections.
@@ -51,6 +53,8 @@ pub struct StationServer {
     doors: Doors,
     pages: Option<Pages>,
     page_port: Option<u16>,
+    feeds: Option<Feeds>,
+    feed_port: Option<u16>,
     /// Connections may wait over TCP to be accepted.
     has_callers: bool,
     /// Accepting failed: it is tried again at the next sweep.
@@ -110,6 +114,19 @@ impl StationServer {
         }
     }
 
+    /// Listens for peers of the feed, too: on this port of 127.0.0.1, if there is one, on a free one
+    /// where it is 0, and at the feed's door, if there is one. `NoConnection` where that can't be.
+    pub fn bind_feed<N: Net>(&mut self, net: &N, port: Option<u16>) -> Result<(), ServerFault> {
+        let mut feeds = Feeds::new(self.alloc, FIRST_FEED, self.swept_at)?;
+        let port = add_feed_port(net, &self.poll, port, &mut feeds)?;
+        add_feed_door(&self.poll, self.doors.take_feed(), &mut feeds)?;
+        if let Some(earlier) = self.feeds.replace(feeds) {
+            earlier.close();
+        }
+        self.feed_port = port;
+        Ok(())
+    }
+
     /// Listens no more.
     pub fn close(self) {}
 
@@ -125,6 +142,13 @@ impl StationServer {
         ensures { result ≡ self.now.page_port }
     {
         self.page_port
+    }
+
+    /// The port of the feed, if it has one.
+    pub fn feed_port(&self) -> Option<u16>
+        ensures { result ≡ self.now.feed_port }
+    {
+        self.feed_port
     }
 
     /// What ends the day, from another thread.
@@ -151,6 +175,9 @@ impl StationServer {
     {
         let served = self.serve_rounds(threads, rt, connections, idle);
         let ended = connections.end_all(rt, self.rounds.waited());
+        if ended.is_ok() {
+            self.serve_feed(rt, connections);
+        }
         served?;
         ended?;
         Ok(())
@@ -177,13 +204,15 @@ impl StationServer {
                 return Ok(());
             }
             self.send_all(rt, connections, idle)?;
-            self.serve_page(connections);
+            self.serve_page(rt, connections);
+            self.serve_feed(rt, connections);
             self.accept_waiting(rt, connections);
         }
         Ok(())
     }
 
-    /// Waits until connections are ready, but no longer than this, and each of them has its turn.
+    /// Waits until connections are ready, but no longer than this, and each of them has its turn. A
+    /// row that a dispenser is told of is noted, or still looked at.
     #[tactic(auto, using(crate::proofs::Rounds::moved, crate::proofs::Rounds::heard))]
     fn hear_round<R: Clock + Eprint, D: Disk>(
         &mut self,
@@ -191,8 +220,10 @@ impl StationServer {
         connections: &mut Connections<D, PeerStream>,
         timeout: Option<Duration>,
     ) -> Result<(), ServerFault>
-        ensures moves { Reaches connections.old.stored connections.new.stored }
+        ensures moves { ReachesBy IsHeard connections.old.stored connections.new.stored }
         ensures due { StayDue connections.old.due connections.new.due }
+        ensures noted { KeepsChanges connections.old.changes connections.new.changes
+            connections.new.stored.station.book }
     {
         match self.poll.poll(&mut self.events, timeout) {
             Ok(()) => {
@@ -216,8 +247,10 @@ impl StationServer {
         rt: &R,
         connections: &mut Connections<D, PeerStream>,
     ) -> Result<(), ServerFault>
-        ensures moves { Reaches connections.old.stored connections.new.stored }
+        ensures moves { ReachesBy IsHeard connections.old.stored connections.new.stored }
         ensures due { StayDue connections.old.due connections.new.due }
+        ensures noted { KeepsChanges connections.old.changes connections.new.changes
+            connections.new.stored.station.book }
     {
         if !self.is_sweep_due() {
             return Ok(());
@@ -233,7 +266,11 @@ impl StationServer {
 
     /// The connections of the page that are ready have their turn. Each row is stored: so it tells
     /// of no other.
-    fn serve_page<D: Disk>(&mut self, connections: &mut Connections<D, PeerStream>)
+    fn serve_page<R: Clock, D: Disk>(
+        &mut self,
+        rt: &R,
+        connections: &mut Connections<D, PeerStream>,
+    )
         requires { is_all_stored connections.old.stored ≡ true }
         ensures station { connections.new.stored.station ≡ connections.old.stored.station }
         ensures journal { connections.new.stored.journal ≡ connections.old.stored.journal }
@@ -252,6 +289,7 @@ impl StationServer {
                     connections.unpaid(),
                     connections.count(),
                     &sessions,
+                    self.clock.read(self.alloc, rt),
                     connections.open_since(),
                     connections.last_seal(),
                     self.rounds.waited(),
@@ -260,6 +298,28 @@ impl StationServer {
             }
         }
         pages.close_late(self.rounds.waited());
+    }
+
+    /// The connections of the feed that are ready, or wait for rows that are new, have their turn.
+    /// Each row is stored: they are sent those that were read then, and no others. Where memory was
+    /// wanting for these there is no feed any more, which is said.
+    fn serve_feed<R: Eprint, D: Disk>(&mut self, rt: &R, connections: &Connections<D, PeerStream>)
+        requires { is_all_stored connections.now.stored ≡ true }
+        ensures { IfSome self.old.feeds (λ old. IfSome self.new.feeds
+            (λ new. IfSome connections.now.changes.fed
+            (λ fed. AreServed fed.rows old.places.items new.places.items))) }
+    {
+        let Some(feeds) = &mut self.feeds else {
+            return;
+        };
+        let now = self.rounds.waited();
+        match connections.fed_rows() {
+            Some(fed) => feeds.serve(self.poll.registry(), fed.rows(), fed.starts(), now),
+            None => {
+                self.feeds = None;
+                let _ = eprintln!(rt; "the feed has ended: out of memory");
+            }
+        }
     }
 
     /// How long it waits for the next round: as long as it takes, until the next sweep, or until
@@ -273,11 +333,13 @@ impl StationServer {
             return Some(left);
         }
         let is_page_busy = self.pages.as_ref().is_some_and(|pages| pages.is_busy());
+        let is_feed_busy = self.feeds.as_ref().is_some_and(|feeds| feeds.is_busy());
         if self.is_refused
             || connections.may_wait()
             || connections.keeps_up()
             || idle.is_some()
             || is_page_busy
+            || is_feed_busy
         {
             return Some(Duration::from_secs(SWEEP_SECONDS));
         }
@@ -290,8 +352,10 @@ impl StationServer {
         &mut self,
         connections: &mut Connections<D, PeerStream>,
     ) -> Result<(), ServerFault>
-        ensures moves { Reaches connections.old.stored connections.new.stored }
+        ensures moves { ReachesBy IsHeard connections.old.stored connections.new.stored }
         ensures due { StayDue connections.old.due connections.new.due }
+        ensures noted { KeepsChanges connections.old.changes connections.new.changes
+            connections.new.stored.station.book }
     {
         for event in &self.events {
             match event.token() {
@@ -306,6 +370,7 @@ impl StationServer {
                 token => {
                     if !self.doors.note_callers(token) {
                         note_page(&mut self.pages, token);
+                        note_feed(&mut self.feeds, event);
                     }
                 }
             }
@@ -532,10 +597,33 @@ impl StationServer {
         ensures moves { Reaches connections.old.stored connections.new.stored }
         ensures stored { OnOk result (is_all_stored connections.new.stored ≡ true) }
     {
-        self.note_due(connections);
-        connections.send_due(self.poll.registry(), rt, self.rounds.waited())?;
+        self.send_noted(rt, connections)?;
         self.sweep_if_due(rt, connections, idle)?;
         connections.read_on(self.poll.registry(), self.rounds.waited());
+        Ok(())
+    }
+
+    /// Stores the round's rows, and sends those that are due what they are owed. Where a dispenser
+    /// is told of a row of this round, each peer that is owed octets is sent them.
+    #[tactic(auto, using(crate::proofs::Rounds::moved, crate::proofs::Rounds::heard))]
+    fn send_noted<R: Eprint, D: Disk>(
+        &mut self,
+        rt: &R,
+        connections: &mut Connections<D, PeerStream>,
+    ) -> Result<(), ServerFault>
+        ensures moves { ReachesBy IsFollowing connections.old.stored connections.new.stored }
+        ensures stored { OnOk result (is_all_stored connections.new.stored ≡ true) }
+        ensures due { OnOk result (length connections.new.stored.station.book.rows
+            ≡ length connections.old.stored.station.book.rows
+            → AreSentTo connections.old.due connections.new.stored connections.new.links.items) }
+        ensures owed { OnOk result (length connections.new.stored.station.book.rows
+            ≡ length connections.old.stored.station.book.rows
+            → HasChange connections.old.changes connections.old.stored.station.book
+            → OwedAreSentTo connections.old.stored.station connections.old.links.items
+            connections.new.stored connections.new.links.items) }
+    {
+        self.note_due(connections);
+        connections.send_due(self.poll.registry(), rt, self.rounds.waited())?;
         Ok(())
     }
 
@@ -544,6 +632,7 @@ impl StationServer {
     #[tactic(auto, using(crate::proofs::Rounds::moved, crate::proofs::Rounds::heard))]
     fn note_due<D: Disk>(&self, connections: &mut Connections<D, PeerStream>)
         ensures stored { connections.new.stored ≡ connections.old.stored }
+        ensures links { connections.new.links ≡ connections.old.links }
         ensures due { StayDue connections.old.due connections.new.due }
         ensures owed { HasChange connections.old.changes connections.old.stored.station.book
             → OwedAreDue connections.new.stored.station connections.new.links.items
@@ -572,8 +661,8 @@ impl StationServer {
         }
         self.swept_at = self.rounds.waited();
         self.accept_again(rt, connections);
-        connections.sweep(self.poll.registry(), rt, idle, self.rounds.waited())?;
-        Ok(())
+        connections.sweep(rt, idle, self.rounds.waited())?;
+        self.send_noted(rt, connections)
     }
 
     /// Accepts again, where that failed.
@@ -609,28 +698,6 @@ enum Accepting {
     Later,
 }
 
-/// The sessions of the peers whose nodes are known, in the order of their keys.
-fn list_sessions<D: Disk>(
-    alloc: Global,
-    connections: &Connections<D, PeerStream>,
-    now: Instant,
-) -> Result<Vec<PeerSession>, NoMemory> {
-    let mut sessions = Vec::new(alloc);
-    for key in 0..PEERS {
-        if let Some(session) = connections.session(key) {
-            let node = session.node;
-            let since = session.since;
-            let quiet_seconds = now.duration_since(session.heard_at).as_secs();
-            sessions.push(PeerSession {
-                node,
-                since,
-                quiet_seconds,
-            })?;
-        }
-    }
-    Ok(sessions)
-}
-
 /// A connection that is ready has its turn, and is due then. Where the station's book can't be
 /// given room for what it sent, that ends the day.
 #[tactic(auto, using(crate::proofs::Rounds::moved, crate::proofs::Rounds::heard))]
@@ -643,6 +710,8 @@ fn take_turn<D: Disk>(
     requires { key < PEERS }
     ensures moves { ReachesBy (IsHearing key) connections.old.stored connections.new.stored }
     ensures due { StayDue connections.old.due connections.new.due }
+    ensures noted { KeepsChanges connections.old.changes connections.new.changes
+        connections.new.stored.station.book }
     ensures now { OnOk result (is_due connections.new.due key ≡ true) }
 {
     if event.is_writable() {
@@ -665,53 +734,14 @@ fn note_page(pages: &mut Option<Pages>, token: Token) {
     }
 }
 
-/// Accepts one connection that waits at this listener, if there is one.
-fn accept_at(listener: &Option<TcpListener>) -> Caller<TcpStream> {
-    match listener {
-        None => Caller::None,
-        Some(listener) => accept(listener),
-    }
-}
-
-/// A listener on 127.0.0.1 that is watched under this token, and its port.
-fn watch_port<N: Net>(
-    net: &N,
-    poll: &Poll,
-    port: u16,
-    token: Token,
-) -> io::Result<(TcpListener, u16)> {
-    let here = SocketAddr::V4(SocketAddrV4::new(Ipv4Addr::LOCALHOST, port));
-    let mut listener = TcpListener::bind(net, here)?;
-    let port = listener.local_addr()?.port();
-    poll.registry()
-        .register(&mut listener, token, Interest::READABLE)?;
-    Ok((listener, port))
-}
-
-/// The page's listener, its port, and the keys of its connections.
-fn listen_for_page<N: Net, R: RandomSource>(
-    net: &N,
-    rt: &R,
-    poll: &Poll,
-    port: u16,
-) -> io::Result<(TcpListener, u16, RandomState)> {
-    let keys = RandomState::new(rt)?;
-    let (listener, port) = watch_port(net, poll, port, PAGE_LISTENER)?;
-    Ok((listener, port, keys))
-}
-
-/// The listener for peers on this port, if there is one, and its port.
-fn listen_for_peers<N: Net>(
-    net: &N,
-    poll: &Poll,
-    port: Option<u16>,
-) -> io::Result<(Option<TcpListener>, Option<u16>)> {
-    match port {
-        None => Ok((None, None)),
-        Some(port) => {
-            let (listener, port) = watch_port(net, poll, port, LISTENER)?;
-            Ok((Some(listener), Some(port)))
-        }
+/// A peer of the feed is ready, waits to be accepted, or takes no more.
+fn note_feed(feeds: &mut Option<Feeds>, event: &Event) {
+    match (feeds, event.token()) {
+        (None, _) => {}
+        (Some(feeds), FEED_LISTENER) => feeds.note_callers(),
+        (Some(feeds), FEED_DOOR) => feeds.note_callers(),
+        (Some(feeds), Token(key)) if event.is_write_closed() => feeds.leave(key),
+        (Some(feeds), Token(key)) => feeds.make_due(key),
     }
 }
 
@@ -738,6 +768,8 @@ fn listen<N: Net, C: Clock>(
         doors,
         pages: None,
         page_port: None,
+        feeds: None,
+        feed_port: None,
         has_callers: false,
         is_refused: false,
         has_accepted: false,

@@ -7,4 +7,4 @@ use Rattle.site_json.proofs.points.point_values.Given as goal
 abbrev pub invariant-loop-point : goal.invariant-loop-point
 invariant-loop-point l =
     map view l.values.items
-    ≡ points_data (site_of_book l.book) l.sessions (take l.point-index l.points)
+    ≡ points_data (site_of_book l.book) l.sessions (take l.point-index l.point-items)

@@ -9,5 +9,5 @@ returns c =
     c.in_ok-to_string.ensures.text
     (ap has_float c.in_ok-site.ensures
     ∙ no_float_site c.args.book.now c.args.unpaid.now c.args.connections c.args.sessions.now
-    c.args.opened (option_copied c.args.seal))
+    c.args.at c.args.opened (option_copied c.args.seal))
     ∙ ap compact_text c.in_ok-site.ensures

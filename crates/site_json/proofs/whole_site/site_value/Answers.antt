@@ -5,6 +5,7 @@ pub returns : goal.returns
 returns c =
     c.in_ok-whole_value.ensures
     ∙ rw (
+      c.in_ok-at.ensures,
       c.in_ok-opened.ensures,
       c.in_ok-seal.ensures,
       c.in_ok-points.ensures,
@@ -12,4 +13,6 @@ returns c =
       c.in_ok-sessions.ensures,
       c.in_ok-tills.ensures,
       c.in_ok-transactions.ensures,
+      c.sum_value-unpaid.ensures,
+      c.cents_of.ensures,
     ) refl

@@ -1,9 +1,9 @@
-use Rattle.std.proofs.Common.{subst, sym}
+use Rattle.std.proofs.Common.{subst, sym, ◌∙◌}
 use Rattle.journal.specs.Opening.{HasNobodyOn}
 use Rattle.journal.specs.Stored.{StoredState}
 use Rattle.station_command.proofs.command.serve_on.Goals as goal
 
 pub serve_peers-end-requires-clause-off : goal.serve_peers-end-requires-clause-off
 serve_peers-end-requires-clause-off g c κs within =
-    subst (λ (s : StoredState). HasNobodyOn s.station.book) (sym c.in_ok-connections.ensures)
-    c.requires.off
+    subst (λ (s : StoredState). HasNobodyOn s.station.book)
+    (sym (c.begin_feed.ensures ∙ c.in_ok-connections.ensures)) c.requires.off

@@ -5,6 +5,8 @@ use Rattle.peer_connections.proofs.change_watch.ChangeWatch.look.Goals as goal
 pub loop-place-preserved : goal.loop-place-preserved
 loop-place-preserved c = record {
   all = c.look_at.ensures.seen ∙ c.loop-place.invariant.all;
+  read = c.look_at.ensures.read ∙ c.loop-place.invariant.read;
+  fed = c.look_at.ensures.fed ∙ c.loop-place.invariant.fed;
   had = λ had. c.look_at.ensures.had (c.loop-place.invariant.had had);
   noted = noted_up_to _ _ c.args.book.now _ _ c.look_at.ensures.had c.loop-place.invariant.noted
       c.look_at.ensures.noted;

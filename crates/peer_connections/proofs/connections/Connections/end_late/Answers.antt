@@ -17,6 +17,10 @@ pub invariant_of-self-clause-seen : goal.invariant_of-self-clause-seen
 invariant_of-self-clause-seen g c =
     seen_ended _ c.args.key c.args.self.now.stored _ c.finish.ensures c.args.self.now.seen
 
+pub invariant_of-self-clause-fed : goal.invariant_of-self-clause-fed
+invariant_of-self-clause-fed g c =
+    seen_ended _ c.args.key c.args.self.now.stored _ c.finish.ensures c.args.self.now.fed
+
 pub invariant_of-self-clause-paired : goal.invariant_of-self-clause-paired
 invariant_of-self-clause-paired g c =
     paired_ended c.args.key c.args.self.now.links.items c.args.self.now.stored _ c.finish.ensures

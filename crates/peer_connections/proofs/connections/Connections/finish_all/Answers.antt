@@ -12,6 +12,10 @@ pub invariant_of-self-clause-seen : goal.invariant_of-self-clause-seen
 invariant_of-self-clause-seen g c =
     seen_ended _ c.loop-key.key c.loop-key.self.stored _ c.finish.ensures c.loop-key.self.seen
 
+pub invariant_of-self-clause-fed : goal.invariant_of-self-clause-fed
+invariant_of-self-clause-fed g c =
+    seen_ended _ c.loop-key.key c.loop-key.self.stored _ c.finish.ensures c.loop-key.self.fed
+
 pub invariant_of-self-clause-paired : goal.invariant_of-self-clause-paired
 invariant_of-self-clause-paired g c =
     paired_ended c.loop-key.key c.loop-key.self.links.items c.loop-key.self.stored _

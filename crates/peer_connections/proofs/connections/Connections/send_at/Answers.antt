@@ -1,5 +1,6 @@
 use Rattle.std.proofs.Common.{sym, ◌∙◌, subst, List, ℕ, take, ◌+◌}
 use Rattle.peer_connections.specs.Sending.{AreSentTo}
+use Rattle.peer_connections.proofs.Getting.{more_followed}
 use Rattle.peer_connections.proofs.Others.{continue_to, rows_stay, sent_up_to}
 use Rattle.peer_connections.proofs.Reaching.{reaches_following}
 use Rattle.peer_connections.proofs.connections.Connections.send_at.Goals as goal
@@ -22,3 +23,7 @@ pub returns-in-Some-clause-streams : goal.returns-in-Some-clause-streams
 returns-in-Some-clause-streams g c = λ few links might.
     continue_to _ c.in-Some.key might links _ _ _ _ c.send_owed.ensures.stream
     c.send_owed.ensures.moves c.send_owed.ensures.journal few c.send_owed.ensures.others
+
+pub returns-in-Some-clause-got : goal.returns-in-Some-clause-got
+returns-in-Some-clause-got g c =
+    more_followed _ c.in-Some.key _ _ _ _ c.send_owed.ensures.stream c.send_owed.ensures.others

@@ -1,8 +1,11 @@
 use Rattle.std.proofs.Common.{ap, ◌∙◌, subst, sym, ◌≡◌, List, length, ℕ}
 use Rattle.station.specs.Moves.{StationState}
+use Rattle.peer_connections.specs.Allowed.{IsFollowing}
 use Rattle.peer_connections.specs.Sending.{AreSentTo}
+use Rattle.peer_connections.proofs.Getting.{more_same, more_then}
 use Rattle.peer_connections.proofs.Others.{continue_stored, on_ok, on_ok_then, sent_by, sent_stored}
 use Rattle.peer_connections.proofs.Reaching.{reaches_kept, reaches_then}
+use Rattle.peer_connections.proofs.Seeing.{keeps_same, keeps_then, kept_on, reached_on}
 use Rattle.peer_connections.proofs.connections.Connections.send_due.Goals as goal
 
 pub returns-clause-moves : goal.returns-clause-moves
@@ -45,3 +48,22 @@ returns-clause-streams g c =
     c.send_each.ensures.journal same c.store_and_end.ensures.station
     all (ap (λ x. x.items) c.store_and_end.ensures.links) (c.send_each.ensures.streams same))
     c.store_and_end.ensures.stored
+
+-- .. or got more than before, at least
+pub returns-clause-got : goal.returns-clause-got
+returns-clause-got g c =
+    more_then _ _ _ _ (more_same _ _ _ (ap (λ x. x.items) c.store.ensures.links))
+    (more_then _ _ _ _ c.send_each.ensures.got
+    (more_same _ _ _ (ap (λ x. x.items) c.store_and_end.ensures.links)))
+
+-- .. and a row of which a dispenser is told is noted, or to be looked at
+pub returns-clause-noted : goal.returns-clause-noted
+returns-clause-noted g c =
+    keeps_then c.args.self.now.changes c.send_each.new.self.changes
+    c.store_and_end.new.self.changes _ _
+    (kept_on _ _ c.store_and_end.ensures.station)
+    (keeps_then c.args.self.now.changes c.store.new.self.changes c.send_each.new.self.changes _ _
+    (reached_on IsFollowing _ _ c.send_each.ensures.moves) c.store.ensures.noted
+    (keeps_same c.store.new.self.changes c.send_each.new.self.changes _
+    c.send_each.ensures.changes))
+    c.store_and_end.ensures.noted

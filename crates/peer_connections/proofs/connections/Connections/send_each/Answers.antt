@@ -1,5 +1,6 @@
 use Rattle.std.proofs.Common.{arith, take, List, ◌∙◌, subst, ℕ}
 use Rattle.peer_connections.specs.Sending.{AreSentTo}
+use Rattle.peer_connections.proofs.Getting.{more_then}
 use Rattle.peer_connections.proofs.Others.{all_sent}
 use Rattle.peer_connections.proofs.Reaching.{reaches_then}
 use Rattle.peer_connections.proofs.connections.Connections.send_each.Goals as goal
@@ -10,6 +11,8 @@ loop-at-preserved g c = record {
   journal = c.send_at.ensures.journal ∙ c.loop-at.invariant.journal;
   rows = omega (arith, c.loop-at.invariant.rows, c.send_at.ensures.rows);
   due = c.send_at.ensures.due ∙ c.loop-at.invariant.due;
+  changes = c.send_at.ensures.changes ∙ c.loop-at.invariant.changes;
+  got = more_then _ _ _ _ c.loop-at.invariant.got c.send_at.ensures.got;
   sent = λ few.
       c.send_at.ensures.sent
       (omega (arith, few, c.loop-at.invariant.rows, c.send_at.ensures.rows))

@@ -3,7 +3,7 @@ use Rattle.journal.specs.Stored.{told_at}
 use Rattle.peer_connections.specs.Allowed.{IsFollowing}
 use Rattle.peer_connections.specs.Reaches.{ReachesBy}
 use Rattle.peer_connections.specs.Sending.{AreSentTo}
-use Rattle.peer_connections.specs.Streams.{AllContinue}
+use Rattle.peer_connections.specs.Streams.{AllContinue, AllGetMore}
 use Rattle.peer_connections.proofs.connections.Connections.send_each.Given as goal
 
 abbrev pub invariant-loop-at : goal.invariant-loop-at
@@ -12,6 +12,8 @@ invariant-loop-at g l = record {
   journal : l.self.stored.journal ≡ l.fn.self.stored.journal;
   rows : length l.fn.self.stored.station.book.rows ≤ length l.self.stored.station.book.rows;
   due : l.self.due ≡ l.fn.self.due;
+  changes : l.self.changes ≡ l.fn.self.changes;
+  got : AllGetMore g.S.Write.contents l.fn.self.links.items l.self.links.items;
   sent : length l.self.stored.station.book.rows ≡ length l.fn.self.stored.station.book.rows
       → AreSentTo (take l.at l.self.due) l.self.stored l.self.links.items;
   streams : length l.self.stored.station.book.rows ≡ length l.fn.self.stored.station.book.rows

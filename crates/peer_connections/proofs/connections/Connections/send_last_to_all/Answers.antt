@@ -5,4 +5,4 @@ pub loop-key-preserved : goal.loop-key-preserved
 loop-key-preserved g c =
     reaches_then _ _ _ _ c.loop-key.invariant
     (reaches_then _ _ _ _ (reaches_ending c.loop-key.key _ _ c.send_last.ensures.moves)
-    (reaches_same _ _ _ c.ignore_ended.ensures.stored))
+    (reaches_same _ _ _ c.shut_ended.ensures.stored))

@@ -13,3 +13,8 @@ pub invariant_of-self-clause-seen : goal.invariant_of-self-clause-seen
 invariant_of-self-clause-seen g c =
     seen_sent _ c.args.key _ _ c.args.self.now.stored _ c.send.ensures.stream
     c.args.self.now.seen
+
+pub invariant_of-self-clause-fed : goal.invariant_of-self-clause-fed
+invariant_of-self-clause-fed g c =
+    seen_sent _ c.args.key _ _ c.args.self.now.stored _ c.send.ensures.stream
+    c.args.self.now.fed

@@ -44,12 +44,13 @@ returns-in-Some g c =
       stream = record {
         sent_to = c.send_link.new.self.stored;
         between = c.send_link.new.self.links.items;
+        others = c.send_link.ensures.others;
         sends = c.send_link.ensures.stream;
         follows = reaches_then _ _ _ _ c.follow_session.ensures.moves
             (reaches_same _ _ _ c.report_again.ensures.stored);
         no_more = no_more_then g.S.Write.contents c.args.key c.send_link.new.self.links.items
-            c.follow_session.new.self.links.items c.report_again.new.self.links.items was c.follow_session.ensures.got
-            c.report_again.ensures.got;
+            c.follow_session.new.self.links.items c.report_again.new.self.links.items
+            c.follow_session.ensures.got c.report_again.ensures.got;
         there = λ is. was_there c.args.key _ _ _ _ c.args.self.now.stored _
             c.args.self.now.paired c.send_link.new.self.paired c.send_link.ensures.stream
             (still_there c.args.key c.send_link.new.self.stored.station
@@ -71,6 +72,8 @@ returns-in-Some g c =
       sent = c.report_again.ensures.sent (c.follow_session.ensures.sent c.send_link.ensures.sent);
       journal = ap (λ (s : StoredState). s.journal) c.report_again.ensures.stored
           ∙ c.follow_session.ensures.journal ∙ c.send_link.ensures.journal;
+      changes = c.report_again.ensures.changes ∙ c.follow_session.ensures.changes
+          ∙ c.send_link.ensures.changes;
       due = c.report_again.ensures.due ∙ c.follow_session.ensures.due ∙ c.send_link.ensures.due;
     }
 
@@ -79,6 +82,7 @@ pub returns-in-Some-Failed-clause-stream : goal.returns-in-Some-Failed-clause-st
 returns-in-Some-Failed-clause-stream g c = record {
   sent_to = c.send_link.new.self.stored;
   between = c.send_link.new.self.links.items;
+  others = c.send_link.ensures.others;
   sends = c.send_link.ensures.stream;
   follows = reaches_then _ _ _ _ (reaches_finished c.args.key _ _ c.finish.ensures)
       (reaches_then _ _ _ _ (reaches_same _ _ _ c.begin_to_close.ensures.stored)
@@ -101,6 +105,7 @@ pub returns-in-None-clause-stream : goal.returns-in-None-clause-stream
 returns-in-None-clause-stream g c = record {
   sent_to = c.send_link.new.self.stored;
   between = c.send_link.new.self.links.items;
+  others = c.send_link.ensures.others;
   sends = c.send_link.ensures.stream;
   follows = reaches_same _ _ _ refl;
   no_more = no_more_same g.S.Write.contents c.args.key c.send_link.new.self.links.items
@@ -116,6 +121,11 @@ pub invariant_of-self-clause-seen : goal.invariant_of-self-clause-seen
 invariant_of-self-clause-seen g c =
     seen_ended _ c.args.key c.send_link.new.self.stored _ c.finish.ensures
     c.send_link.new.self.seen
+
+pub invariant_of-self-clause-fed : goal.invariant_of-self-clause-fed
+invariant_of-self-clause-fed g c =
+    seen_ended _ c.args.key c.send_link.new.self.stored _ c.finish.ensures
+    c.send_link.new.self.fed
 
 pub invariant_of-self-clause-paired : goal.invariant_of-self-clause-paired
 invariant_of-self-clause-paired g c =

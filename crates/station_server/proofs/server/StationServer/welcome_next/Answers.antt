@@ -3,7 +3,7 @@ use Rattle.station_server.proofs.server.StationServer.welcome_next.Goals as goal
 
 pub returns-in-Came : goal.returns-in-Came
 returns-in-Came g c =
-    reaches_then _ _ _ _ (reaches_way _ _ _ c.accept_one.ensures) c.welcome.ensures
+    reaches_then _ _ _ _ (reaches_way _ _ _ c.accept_one.ensures) c.welcome.ensures.comes.moves
 
 pub returns-in-Gone : goal.returns-in-Gone
 returns-in-Gone g c = reaches_way _ _ _ c.accept_one.ensures
