@@ -5,6 +5,7 @@ import contextlib
 import fcntl
 import json
 import os
+import re
 import select
 import shutil
 import subprocess
@@ -124,13 +125,18 @@ def start_browser():
 # ---- what the page shows
 
 
+AGE = re.compile(r"(?<![\d:])(\d+:\d\d|\d+ h \d+ m)(?![\d:])")  # how long something has been so
+
+
 def read_tile(browser, point):
-    """The words of a point's tile, without the spaces between them."""
-    script = f"""[...document.querySelectorAll('article')]
+    """The words of a point's tile that are seen, without the spaces between them; each age in them
+    is AGE."""
+    script = f"""[...document.querySelectorAll('#points section')]
         .filter(tile => tile.querySelector('h2').textContent === '{point}')
         .map(tile => [...tile.querySelectorAll('h2,span,p')].filter(part => !part.children.length)
-        .filter(part => !part.hidden).map(part => part.textContent).join('|')).join()"""
-    return browser.evaluate(script)
+        .filter(part => part.getClientRects().length).map(part => part.textContent)
+        .join('|')).join()"""
+    return AGE.sub("AGE", browser.evaluate(script))
 
 
 def expect_words(browser, point, *words):

@@ -175,19 +175,20 @@ KINDS = (
 PLAIN = 32  # the points up to this one have figures as they come; the others the greatest
 
 
-def make_crowded_day(first=1):
-    """64 points, from this one on in all nine states, with each kind of release, with as many
+def make_crowded_day(first=1, numbers=range(1, 65)):
+    """These points, from `first` on in all nine states, with each kind of release, with as many
     unpaid transactions as they may have, locked and not, by each till. Returns the site and the
     day."""
     prices = (1_789, 1_859, 1_999, 1_819, 99_999, 99_999, 99_999, 99_999)
     nozzles = {True: (1, 2, 3, 4), False: (5, 6, 7, 8)}
-    points = {p: [(n, 0) for n in nozzles[p <= PLAIN]] for p in range(1, 65)}
+    points = {p: [(n, 0) for n in nozzles[p <= PLAIN]] for p in numbers}
     site = Site(tuple(zip(LONG_NAMES, prices)), points)
     day = Day(site)
     for till in range(1, TILLS + 1):
         day.till(till, "SignOn")
-    for point in range(first, 65):
-        crowd_point(day, point, 1 + (point - 1) % 9, KINDS[(point - 1) // 9 % len(KINDS)])
+    for point in numbers:
+        if point >= first:
+            crowd_point(day, point, 1 + (point - 1) % 9, KINDS[(point - 1) // 9 % len(KINDS)])
     return site, day
 
 

@@ -44,7 +44,7 @@
     const box = range.getBoundingClientRect();
     const top = box.top + box.height * .15, bottom = box.bottom - box.height * .1;
     for (let e = element; e !== document.body; e = e.parentElement) {
-      if (getComputedStyle(e).overflow === 'visible') continue;
+      if (!/hidden|clip/.test(getComputedStyle(e).overflow)) continue;  // it can be scrolled
       const hole = e.getBoundingClientRect();
       if (box.left < hole.left - .5 || box.right > hole.right + .5 ||
           top < hole.top - .5 || bottom > hole.bottom + .5) return true;
@@ -56,7 +56,8 @@
   while (texts.nextNode()) {
     const text = texts.currentNode, element = text.parentElement;
     if (!text.textContent.trim() || !element.getClientRects().length) continue;
-    const tile = element.closest('article');
+    if (element.closest('[role=status]')) continue;  // it is heard, not seen
+    const tile = element.closest('#points section');
     const point = tile ? Number(tile.querySelector('h2').textContent) : 0;
     if (getComputedStyle(element).textOverflow === 'ellipsis') {
       if (element.scrollWidth > element.clientWidth) found.short.push([element.className, point]);

@@ -10,130 +10,214 @@ pub const PAGE: &str = r##"<!doctype html>
 <meta name="color-scheme" content="light dark">
 <title>Forecourt</title>
 <style>
-:root{color-scheme:light dark;--bg:#e9ebee;--card:#fff;--ink:#14171c;--dim:#4c535d;--edge:#c3c8cf;
---due:#fff1cf;--bad:#9b1c1c;--on:#fff;--s1:#4c535d;--s2:#5d4a3b;--s3:#33566e;--s4:#8a4a00;
---s5:#1d4ed8;
---s6:#0f5f73;--s7:#6b21a8;--s8:#166534;--s9:#9b1c1c;--p1:#166534;--p2:#8a4a00;--p3:#6b21a8;
---p4:#33566e;
---p5:#4c535d}
-@media (prefers-color-scheme:dark){:root{--bg:#101317;--card:#1b2027;--ink:#f0f2f5;--dim:#b3bac4;
---edge:#3a424d;--due:#3b3010;--bad:#ff9c9c;--on:#0d0f12;--s1:#b3bac4;--s2:#d3b59c;--s3:#9cc3e0;
---s4:#ffc46b;--s5:#9db9ff;--s6:#7fd6ea;--s7:#d9b3ff;--s8:#8ee6a8;--s9:#ff9c9c;--p1:#8ee6a8;
---p2:#ffc46b;
---p3:#d9b3ff;--p4:#9cc3e0;--p5:#b3bac4}}
+:root{color-scheme:light dark;--bg:#dde1e6;--card:#fff;--flat:#eceff2;--ink:#14171c;--dim:#474e58;
+--edge:#aab2bc;--call:#ffa726;--due:#ffe27a;--stop:#b3261e;--on:#14171c;--onstop:#fff;
+--go:#166534;--ready:#1d4ed8}
+@media (prefers-color-scheme:dark){:root{--bg:#0b0e12;--card:#1b2027;--flat:#12161b;--ink:#f0f2f5;
+--dim:#b3bac4;--edge:#46505d;--call:#ffa726;--due:#ffd54a;--stop:#ff8a80;--onstop:#14171c;
+--go:#8ee6a8;--ready:#a9c1ff}}
 *{box-sizing:border-box}
+[hidden]{display:none!important}
 html,body{height:100%;margin:0}
-body{display:grid;grid-template:auto minmax(0,1fr) auto/minmax(0,1fr);gap:4px;padding:4px;
-background:var(--bg);color:var(--ink);font:13px/1.2 system-ui,sans-serif;
+body{display:grid;grid-template:auto minmax(0,1fr) auto/minmax(0,1fr);gap:6px;padding:6px;
+background:var(--bg);color:var(--ink);font:16px/1.2 system-ui,sans-serif;
 font-variant-numeric:tabular-nums}
-header{display:flex;flex-wrap:wrap;gap:0 1.2em;align-items:baseline}
-h1,h2{font-size:1em;margin:0}
-#state{font-weight:700}
-.lost #state{background:var(--bad);color:var(--on);border-radius:3px;padding:0 .4em}
-.lost main,.lost footer{opacity:.85}
-main{display:grid;grid-template-columns:repeat(var(--cols,4),minmax(0,1fr));
-grid-auto-rows:minmax(0,1fr);gap:3px;min-height:0}
-article{min-width:0;min-height:0;overflow:hidden;background:var(--card);
-border:1px solid var(--edge);
-border-left:5px solid var(--c);border-radius:3px;padding:1px 4px}
-p{margin:0;white-space:nowrap;overflow:hidden;text-overflow:ellipsis}
-.row{display:flex;gap:.4em;align-items:baseline;white-space:nowrap}
-.row h2{font-size:1.15em}
-.chip{background:var(--c);color:var(--on);border-radius:3px;padding:0 4px;font-weight:600}
-.who{color:var(--dim);margin-left:auto}
-.marks .gone{color:var(--bad);font-weight:600}
-#who{position:relative}
-summary{cursor:pointer}
-#sessions{position:absolute;z-index:1;top:100%;left:0;max-height:70vh;overflow:auto;
-background:var(--card);border:1px solid var(--edge);border-radius:3px;padding:4px 8px}
-.dim,.marks{color:var(--dim)}
+h1,h2,p,table{font-size:1em;margin:0}
+a,summary{color:var(--ink);text-underline-offset:.15em}
+:focus-visible{outline:3px solid var(--ready);outline-offset:1px}
+.heard{position:absolute;width:1px;height:1px;overflow:hidden;clip-path:inset(50%)}
+header{display:flex;flex-wrap:wrap;gap:0 1em;align-items:baseline;font-size:clamp(14px,1.05vw,24px)}
+#state{font-size:1.7em;font-weight:700;line-height:1.25}
+#state.calls{background:var(--call);color:var(--on);padding:0 .3em}
+.lost #state{background:var(--stop);color:var(--onstop);padding:0 .3em}
+nav{display:flex;gap:.8em;margin-left:auto}
+[aria-current]{font-weight:700;text-decoration:none}
+#clock{font-size:1.7em;font-weight:700;line-height:1.25}
+#points{display:grid;grid-template-columns:repeat(var(--cols,4),minmax(0,1fr));
+grid-auto-rows:minmax(0,1fr);gap:6px;min-height:0}
+#points section{container-type:size;position:relative;min-width:0;min-height:0;overflow:hidden;
+background:var(--card);border:1px solid var(--edge);border-left:6px solid var(--c)}
+.tile{font-size:min(5cqw,8cqh,97cqh/var(--high));line-height:1.2}
+.tile>*{padding:0 .4em}
+.s1,.s2{--c:var(--edge);--w:var(--dim)}.s3{--c:var(--dim);--w:var(--dim)}
+.s5,.s6{--c:var(--ready);--w:var(--ready)}.s8{--c:var(--go);--w:var(--go)}
+.s4{--c:var(--call);--w:var(--on);--f:var(--call)}
+.s7,.s9{--c:var(--stop);--w:var(--onstop);--f:var(--stop)}
+#points .s1,#points .s2{background:var(--flat)}
+.head,.figs,.run,.line{display:flex;gap:.35em;align-items:baseline;white-space:nowrap}
+.head{background:var(--f,transparent);color:var(--w);line-height:1.1}
+.head h2{font-size:2.2em;line-height:1.15;min-width:1.45em}
+.head h2{color:var(--h,var(--ink))}.s4,.s7,.s9{--h:var(--w)}
+.state,.age{font-size:min(1.5em,(100cqw - 4.6em)/(var(--n)*.69));font-weight:600}
+.s3 .state{font-weight:400}
+.age,.sum,.by,.who,.prepaid{margin-left:auto}
+.figs,.run,.rest{gap:.45em;line-height:1.1}.rest{text-align:right}
+.flowed,.dues .sum,.run .sum{font-size:min(2em,(100cqw - 1.6em)/(var(--n)*.67))}
 .sum{font-weight:700}
-.row span,.due span,.title span{flex:none}
-.row .flowed,.due .flowed,.due .name,.title .name{flex:0 1 auto;min-width:0;overflow:hidden;
-text-overflow:ellipsis}
-.row .flowed,.due .flowed{flex-shrink:1000000}
-.due{display:flex;gap:.4em;background:var(--due);border-radius:2px;padding:0 2px}
-.due .by{margin-left:auto}
-.due .flowed::after{content:' l'}
-.many main{font-size:12px;line-height:1.08}
-.many article{border-left-width:4px;padding:0 2px}
-.many .head{line-height:1.1}
-.many .chip{font-size:11px;letter-spacing:-.03em;padding:0 3px}
-.many .run{letter-spacing:-.02em}
-.many .due{font-size:11px;letter-spacing:-.03em;gap:3px;line-height:1.14;padding:0 1px}
-.many .due .flowed::after{content:''}
-.few header{font-size:16px}
-.few main{font-size:19px;grid-auto-rows:minmax(0,12em)}
-.few article{padding:6px 10px}
-.few .run .flowed,.few .run .sum{font-size:1.2em}
-.some header{font-size:15px}
-.some main{font-size:16px}
-footer{display:grid;gap:3px;min-height:0}
-#products{display:grid;grid-template-columns:repeat(auto-fit,minmax(9em,1fr));gap:3px}
-#products section,#tills span{background:var(--card);border:1px solid var(--edge);border-radius:3px;
-padding:0 4px;min-width:0;overflow:hidden;white-space:nowrap;font-size:12px}
-.bar{display:flex;height:6px;margin:2px 0;background:var(--edge);border-radius:2px;overflow:hidden}
-.bar i{flex:0 1 0;min-width:0}
-.title{display:flex;gap:.6em}
-.parts{display:flex;flex-wrap:wrap;gap:0 .8em;font-size:10.5px;line-height:1.1;
-letter-spacing:-.02em}
-.parts span{text-decoration-line:underline;text-decoration-thickness:2px;text-underline-offset:1px;
-text-decoration-skip-ink:none}
-#tills{display:grid;grid-template-columns:repeat(auto-fill,minmax(150px,1fr));gap:1px 3px}
-#tills span{font-size:11.5px;line-height:1.15;text-overflow:ellipsis;letter-spacing:-.02em}
-.few #products section,.few #tills span{font-size:15px;padding:2px 8px}.few .parts{font-size:14px}
-.few #products{grid-template-columns:repeat(auto-fit,minmax(18em,1fr))}
-.few #tills{grid-template-columns:repeat(auto-fill,minmax(16em,1fr))}
+.figs .name{font-size:min(1em,(100cqw - 1.6em)/(var(--n)*1.34))}
+.figs .prepaid{font-size:min(.8em,(100cqw - 1.6em)/(var(--n)*1.7))}
+.gone,.gap,.limit,.line{white-space:nowrap;font-size:min(1em,(100cqw - 1.5em)/(var(--n)*.63))}
+.gone,.gap{color:var(--stop);font-weight:700}
+.line span{flex:none}
+.dim,.limit,.out,.who,.name{color:var(--dim)}
+.due{margin-top:.25em;padding:0 .4em .1em}
+.tile>.dues{padding:0}
+.due.payable:not(.paid){background:var(--due);color:var(--on)}
+.due.payable:not(.paid) .name{color:var(--on)}
+.due.locked,.due.paid{border-top:1px solid var(--edge)}
+#points .s4 .head,.due.payable:not(.paid){outline:2px solid var(--on);outline-offset:-2px}
+@container (height < 170px){
+#points .s4 .head,.due.payable:not(.paid){outline:0}
+.tile{font-size:min(7cqw,13.6cqh,97cqh/var(--low));line-height:1.12}
+.tile>*,.due{padding:0 .2em}.due{margin-top:0}
+.head,.figs,.run,.rest{line-height:1.12}
+.head h2{font-size:1.15em;min-width:1.3em;line-height:1.12}
+.state,.age{font-size:min(1em,(100cqw - 2.6em)/(var(--n)*.68))}
+.figs .flowed,.figs .sum,.figs .name,.figs .prepaid,.rest .sum{
+font-size:min(1em,(100cqw - .8em)/(var(--m)*.68))}
+.run .flowed,.run .sum{font-size:min(1.25em,(100cqw - .8em)/(var(--n)*.68))}
+.gone,.gap,.limit{font-size:min(.95em,(100cqw - .8em)/(var(--n)*.61))}
+.line{font-size:min(.95em,(100cqw - .8em)/(min(var(--n),22)*.61))}
+.line .out,.line .product{flex:0 1 auto;min-width:0;overflow:hidden;text-overflow:ellipsis}
+}
+.lost{--card:var(--flat);--ink:var(--dim);--call:transparent;--due:transparent;--on:var(--dim);
+--go:var(--dim);--ready:var(--dim)}
+.lost #points{--stop:transparent;--onstop:var(--dim)}
+.lost #points :is(.state,.flowed,.sum,.prepaid,.by,.who,.out,.product,.limit),.lost #clock,
+.lost #date{text-decoration:line-through}
+.lost .tile{position:relative}
+.lost #points section::before{content:'';position:absolute;inset:0;background:linear-gradient(to
+top right,transparent calc(50% - 2px),var(--edge) calc(50% - 2px) calc(50% + 2px),transparent 0)}
+.lost :is(.gone,.gap){color:var(--dim)}
+.lost .head,.lost .due{outline:0!important}
+.last{display:none}
+.lost #points .last{display:block;margin-left:auto;text-decoration:none;font-weight:700}
+.lost .age{display:none}
+.lost .state{min-width:0;overflow:hidden;text-overflow:ellipsis}
+footer{display:grid;grid-template-columns:auto minmax(0,1fr);gap:4px 6px;position:relative;
+min-width:0;font-size:clamp(13px,1.05vw,24px)}
+#products{display:grid;grid-template-columns:repeat(auto-fit,minmax(8em,1fr));gap:4px}
+#products section{background:var(--card);border:1px solid var(--edge);padding:2px 8px;min-width:0;
+container-type:inline-size;white-space:nowrap}
+#products h2{font-size:min(1em,98cqw/(var(--n)*.7));font-weight:600}
+#products p{display:flex;gap:.4em;align-items:baseline}
+#products b{font-size:min(1.6em,96cqw/(var(--n)*.7))}
+#products .price{font-size:min(1em,96cqw/(var(--n)*1.16))}
+.many{gap:4px;padding:4px}.many #points{gap:3px}.many #points section{border-left-width:4px}
+.many header{font-size:clamp(12px,.95vw,24px)}
+.many footer{font-size:clamp(11px,.85vw,20px);gap:3px}
+@container (width < 180px){#products :is(b,.price){font-size:min(1.15em,96cqw/(var(--m)*.68))}}
+.many #tills{display:grid;grid-template-columns:repeat(auto-fill,minmax(12.9em,1fr));gap:0 .6em;
+line-height:1.15}
+#products .price{margin-left:auto}
+#tills{display:flex;flex-wrap:wrap;gap:0 1.4em;grid-column:1/3}
+#tills span{white-space:nowrap}
+footer details{position:relative;border:1px solid var(--edge);background:var(--card)}
+footer summary{padding:2px 8px;height:100%}
+footer details[open]>div{position:absolute;left:0;bottom:100%;z-index:1;background:var(--card);
+border:2px solid var(--ink);padding:.6em 1em;max-width:calc(100vw - 12px);overflow:auto}
+summary{cursor:pointer;white-space:nowrap}
+table{border-collapse:collapse}
+caption{text-align:left;color:var(--dim);padding-bottom:.3em}
+td,th{padding:.1em .6em .1em 0;text-align:right;white-space:nowrap;border-top:1px solid var(--edge)}
+td:first-child,th:first-child{text-align:left}thead th:first-child{min-width:4em}
+thead th{border:0;color:var(--dim)}
+#figures{overflow:auto;background:var(--card);padding:1em;font-size:14px}
+#figures>div{columns:27em;column-gap:2.5em}
+#figures .wide{column-span:all}
+#figures h2{font-size:1.3em;margin-bottom:.3em}
+#figures section{margin-bottom:1.4em;break-inside:avoid;max-width:100%;overflow-x:auto}
+#figures .long{break-inside:auto}
+#seal{overflow-wrap:anywhere}
 @media (max-width:1100px),(max-height:640px){html,body{height:auto}body{display:block}
-header{position:sticky;top:0;background:var(--bg);padding:4px 0}
-main{grid-template-columns:repeat(auto-fill,minmax(16.5em,1fr));grid-auto-rows:auto}
-.many main{grid-template-columns:repeat(auto-fill,minmax(13em,1fr))}
-.few main{grid-auto-rows:auto}footer{margin-top:8px}
-#products{grid-template-columns:repeat(auto-fill,minmax(11em,1fr))}}
-@media (max-width:700px){body{font-size:16px}
-main{display:block}article,.many article{margin:4px 0;padding:5px 8px}
-#products,#tills,.few #products,.few #tills{grid-template-columns:1fr}
-#products section,#tills span{font-size:15px}.parts{font-size:14px}
-.many main,.few main,.many .due,.many .chip{font-size:16px;letter-spacing:0;line-height:1.2}
-.many .due{gap:.4em}.many .due .flowed::after{content:' l'}}
-@media (min-width:1600px) and (min-height:1000px){.many main{font-size:15px}
-.many .chip,.many .due{font-size:14px}}
+header{position:sticky;top:0;z-index:1;background:var(--bg);padding:2px 0}
+#points{grid-template-columns:repeat(auto-fill,minmax(17em,1fr));grid-auto-rows:auto}
+#points section{container-type:inline-size}
+.tile,.many .tile{font-size:15px;padding-bottom:3px}
+footer{margin-top:8px;grid-template-columns:minmax(0,1fr)}#tills{grid-column:1}
+footer details[open]>div{position:static;border:0}}
+@media (max-width:700px){#points{grid-template-columns:minmax(0,1fr)}.tile{font-size:16px}
+#state{order:-1;width:100%;font-size:1.3em}#clock{font-size:1.3em}
+#products,#tills,.many #tills{display:grid;grid-template-columns:repeat(2,minmax(0,1fr))}
+nav{margin:0}nav a{padding:.4em .2em}#figures{font-size:13px;padding:.6em}}
 </style>
 </head>
 <body>
-<header><h1>Forecourt</h1><span id="shift"></span><span id="rows"></span>
-<details id="who"><summary id="peers"></summary><div id="sessions"></div></details>
-<span id="seal"></span><span id="made"></span>
-<span id="state" role="status">no answer yet</span></header>
+<header><h1 id="name">Forecourt</h1><span id="state">no answer yet</span>
+<nav aria-label="views"><a id="to-points" href="#">pumps</a>
+<a id="to-figures" href="#history">figures</a></nav>
+<span id="shift"></span><span id="date"></span><span id="clock"></span></header>
+<p id="news" class="heard" role="status" aria-live="polite"></p>
 <noscript>This page needs JavaScript.</noscript>
-<main id="points" aria-label="fuelling points"></main>
-<footer><div id="products" aria-label="products"></div><div id="tills" aria-label="tills"></div>
-</footer>
+<main id="points" aria-label="pumps"></main>
+<main id="figures" aria-label="figures" tabindex="0" hidden><div>
+<section class="wide"><h2>Litres since the first row</h2>
+<table><thead></thead><tbody id="parts"></tbody></table>
+</section>
+<section><h2 id="since">This shift</h2><table><thead></thead><tbody id="takings"></tbody></table>
+</section>
+<section><h2>History</h2><p id="rows"></p><p id="seal"></p></section>
+<section><h2 id="peers">Connections</h2><table><thead></thead><tbody id="sessions"></tbody></table>
+</section>
+<section class="long"><h2>Meters, in litres</h2>
+<table><thead></thead><tbody id="meters"></tbody></table></section>
+</div></main>
+<footer><details id="more"><summary>litres<br>metered</summary><div><table>
+<caption>Litres since the first row, and what became of them</caption>
+<thead></thead><tbody id="shares"></tbody></table></div></details>
+<div id="products" role="group" aria-label="products"></div>
+<div id="tills" role="group" aria-label="tills"></div></footer>
 <script>
 'use strict';
-const PARTS = ['cleared', 'payable', 'locked', 'running', 'adjusted'];
+const PARTS = ['running', 'payable', 'locked', 'cleared', 'adjusted'];
 const SUBNETS = new Map([[2, 'till'], [3, 'dispenser']]);
-const MOST_WAIT = 3000, PAUSE = 1000, SEAL_SHOWN = 12;
-let heard = new Date();
+const CALLING = 4, MOST_WAIT = 3000, PAUSE = 1000;
+// The time of the last answer; since when what is so has been so; what was so then.
+let heard = null, begun = new Map(), told = null;
 
 const at = id => document.getElementById(id);
+// A number with its thousands apart.
+const spaced = text => text.replace(/\B(?=(\d{3})+(?!\d))(?<!\.\d*)/g, '\u00a0');
 const money = cents => (cents / 100).toFixed(2);
-const litres = (millilitres, digits) => (millilitres / 1000).toFixed(digits);
+// Of half a hundredth of a litre and more, one more.
+const litres = millilitres => (Math.round(millilitres / 10) / 100).toFixed(2);
 const mills = price => (price / 1000).toFixed(3);
-const colour = part => 'var(--p' + (PARTS.indexOf(part) + 1) + ')';
+const exact = millilitres => spaced((millilitres / 1000).toFixed(3));
 const clock = time => time.toTimeString().slice(0, 8);
+const day = time => time.toLocaleDateString('en-GB',
+  {weekday: 'short', day: 'numeric', month: 'short', year: 'numeric'});
+// The time of a day, of another day than today with its date.
 const moment = time => (time.toDateString() === new Date().toDateString() ? '' :
   time.toLocaleDateString('sv') + ' ') + clock(time).slice(0, 5);
+const list = words => words.filter(word => word !== '').join(', ');
+
+// A length of time: 0:42, then 12:05, then 3 h 12 m.
+function length(milliseconds) {
+  const seconds = Math.floor(milliseconds / 1000), minutes = Math.floor(seconds / 60);
+  return minutes < 60 ? minutes + ':' + String(seconds % 60).padStart(2, '0') :
+    Math.floor(minutes / 60) + ' h ' + minutes % 60 + ' m';
+}
 
 function put(node, text) {
   if (node.textContent !== text) node.textContent = text;
   node.hidden = text === '';
 }
 
-// A text that may be cut off is told by its title, too.
+// A text that ends early where a tile has no room for it: the mouse over it shows the whole.
 function putLong(node, text) {
   put(node, text);
   node.title = text;
+}
+
+// How wide a text is, in digits.
+const wide = text => text.length - text.replace(/[^ .,:/il]/g, '').length / 2;
+
+// Tells the style how wide a line is, so that it stays within its tile: --n where its second text
+// is half as large as the first, and the third a third; --m where all are alike.
+function count(node, large, half = '', third = '') {
+  const [a, b, c] = [large, half, third].map(wide);
+  node.style.setProperty('--n', Math.max(1, a + b / 2 + c * .38));
+  node.style.setProperty('--m', Math.max(1, a + b + c));
 }
 
 // As many children of this kind as there are values, each filled by its value.
@@ -145,7 +229,7 @@ function fill(parent, name, values, write) {
 
 // A child with this class, made where it isn't there yet.
 function part(parent, name, kind) {
-  const old = parent.querySelector('.' + kind);
+  const old = parent.querySelector(':scope > .' + kind);
   if (old) return old;
   const child = document.createElement(name);
   child.className = kind;
@@ -153,72 +237,146 @@ function part(parent, name, kind) {
   return child;
 }
 
-function preset(fuelling) {
-  if (fuelling.prepaid !== null) return 'prepaid ' + money(fuelling.prepaid);
+// A table's head, once, and its lines, each of which begins with its name.
+function table(body, head, lines) {
+  const write = (cell, text) => cell.textContent = text;
+  fill(body.parentElement.tHead, 'tr', [head], (row, words) => fill(row, 'th', words, write));
+  fill(body, 'tr', lines, (row, words) => fill(row, 'td', words, write));
+}
+
+// ---- what site.json has no member for: what is still due of a sale, and how long something is so
+
+const due = sale => sale.cents - (sale.prepaid ?? 0);
+
+// How long something has been so, as far as this page saw it.
+function since(key, site) {
+  if (!site.begun.has(key)) site.begun.set(key, begun.get(key) ?? site.now);
+  return length(site.now - site.begun.get(key));
+}
+
+function dueWords(sale) {
+  if (sale.prepaid === null) return money(sale.cents);
+  const left = due(sale);
+  return left === 0 ? 'nothing due' : left > 0 ? money(left) + ' due' : money(-left) + ' back';
+}
+
+// ---- pumps
+
+const saleKey = sale => [sale.point, sale.shift, sale.number].join('/');
+
+// Of a sale of the open shift point/number, of another point/shift/number.
+function saleName(sale, shift) {
+  return sale.point + '/' + (sale.shift === shift ? '' : sale.shift + '/') + sale.number;
+}
+
+function showSale(box, sale, site) {
+  box.className = 'due ' + sale.status + (due(sale) === 0 ? ' paid' : '');
+  const figs = part(box, 'div', 'figs'), rest = part(box, 'div', 'rest');
+  const line = part(box, 'div', 'line');
+  const name = saleName(sale, site.shift), flowed = litres(sale.millilitres) + ' l';
+  const sum = dueWords(sale), product = site.names.get(sale.product);
+  const prepaid = sale.prepaid === null ? '' : money(sale.prepaid) + ' prepaid,';
+  const by = sale.status === 'locked' ? 'till ' + sale.till + ' is collecting' :
+    (due(sale) > 0 ? 'payable ' : 'to clear ') + since('payable ' + saleKey(sale), site);
+  put(part(figs, 'span', 'name'), name);
+  put(part(figs, 'span', 'flowed'), flowed);
+  put(part(figs, 'span', 'prepaid'), prepaid);
+  put(part(figs, 'span', 'sum'), prepaid === '' ? sum : '');
+  count(figs, flowed + '  ' + (prepaid === '' ? sum : ''), name, prepaid);
+  put(part(rest, 'span', 'sum'), prepaid === '' ? '' : sum);
+  count(rest, sum);
+  rest.hidden = prepaid === '';
+  putLong(part(line, 'span', 'product'), product);
+  put(part(line, 'span', 'by'), by);
+  count(line, product + ' ' + by);
+}
+
+function presetWords(fuelling) {
+  if (fuelling.prepaid !== null) {
+    const left = fuelling.prepaid - (fuelling.cents ?? 0);
+    return money(fuelling.prepaid) + ' prepaid' + (fuelling.cents === null ? '' :
+      ', ' + money(Math.abs(left)) + (left < 0 ? ' over' : ' left'));
+  }
   if (fuelling['preset cents'] !== null) return 'for ' + money(fuelling['preset cents']);
   const volume = fuelling['preset millilitres'];
-  return volume === null ? '' : 'for ' + litres(volume, 2) + ' l';
+  return volume === null ? '' : 'for ' + litres(volume) + ' l';
 }
 
-function showSale(line, sale) {
-  line.className = 'due';
-  put(part(line, 'span', 'name'), sale.shift + '/' + sale.number);
-  put(part(line, 'span', 'flowed'), litres(sale.millilitres, 2));
-  put(part(line, 'span', 'sum'), money(sale.cents));
-  const by = sale.status === 'locked' ? 'till ' + sale.till : sale.status;
-  put(part(line, 'span', 'by'), by);
-  line.title = 'shift ' + sale.shift + ', number ' + sale.number + ': ' +
-    litres(sale.millilitres, 2) + ' l for ' + money(sale.cents) + ', ' + by;
+// Readings that a nozzle's meter refuses: what it reads, and what was reported last.
+function gapWords(gaps) {
+  const [gap] = gaps;
+  return gap === undefined ? '' : 'nozzle ' + gap.nozzle + ': ' + litres(gap.expected) +
+    ' l expected, ' + litres(gap.reported) + ' reported' +
+    (gaps.length > 1 ? ', ' + (gaps.length - 1) + ' more' : '');
 }
 
-// What the meters of a point read.
-function readings(point) {
-  return point.nozzles.map(nozzle => 'nozzle ' + nozzle.number + ' reads ' +
-    litres(nozzle.reading, 2) + ' l').join(', ');
-}
-
-function showPoint(tile, point, names, sales) {
-  tile.style.setProperty('--c', 'var(--s' + point.state + ')');
-  fill(tile, 'div', ['head row', 'marks', 'run row', 'dues'], (box, kind) => box.className = kind);
-  const [head, marks, run, dues] = tile.children;
-  put(part(head, 'h2', 'number'), String(point.number));
-  part(head, 'h2', 'number').title = readings(point);
-  put(part(head, 'span', 'chip'), point['state name']);
-  const name = point.product === null ? '' : names.get(point.product) || 'product ' + point.product;
-  const nozzle = point.nozzle === null ? '' : point.nozzle + ' ' + name;
-  const fuelling = point.fuelling;
-  const words = [fuelling.test ? 'test' : '', fuelling.ending ? 'ending' : '', nozzle];
-  const limit = part(marks, 'p', 'limit');
+function showPoint(section, point, site) {
+  const sales = site.transactions.filter(sale => sale.point === point.number);
+  const fuelling = point.fuelling, flows = fuelling.cents !== null, calls = point.state === CALLING;
+  section.className = 's' + point.state;
+  section.setAttribute('aria-label', 'Pump ' + point.number);
+  const tile = part(section, 'div', 'tile');
+  const head = part(tile, 'div', 'head'), run = part(tile, 'div', 'run');
+  const missing = part(tile, 'p', 'gone'), wrong = part(tile, 'p', 'gap');
+  const limit = part(tile, 'p', 'limit');
+  const line = part(tile, 'div', 'line'), dues = part(tile, 'div', 'dues');
+  const number = part(head, 'h2', 'number');
+  put(number, String(point.number));
+  number.setAttribute('aria-label', 'Pump ' + point.number);
+  const age = calls ? since('calling ' + point.number, site) : '';
+  put(part(head, 'span', 'state'), point['state name']);
+  put(part(head, 'span', 'age'), age);
+  put(part(head, 'span', 'last'), clock(heard));
+  count(head, point['state name'] + ' ' + age);
+  const flowed = flows ? litres(fuelling.millilitres) + ' l' : '';
+  const sum = !flows ? '' : fuelling.test ? 'test' : money(fuelling.cents);
+  put(part(run, 'span', 'flowed'), flowed);
+  put(part(run, 'span', 'sum'), sum);
+  count(run, flowed + ' ' + sum);
+  run.hidden = !flows;
   const gone = point['dispenser connected'] ? '' : 'no dispenser';
-  limit.classList.toggle('gone', gone !== '');
-  putLong(limit, [gone, preset(fuelling)].filter(word => word !== '').join(', '));
-  putLong(part(marks, 'p', 'out'), words.filter(word => word !== '').join(', '));
-  const flows = fuelling.cents !== null;
-  put(part(run, 'span', 'flowed'), flows ? litres(fuelling.millilitres, 2) + ' l' : '');
-  put(part(run, 'span', 'sum'), flows ? money(fuelling.cents) : '');
-  put(part(run, 'span', 'who'), point.holder === null ? '' : 'till ' + point.holder);
-  fill(dues, 'p', sales, showSale);
+  const out = list([fuelling.test && !flows ? 'test' : '', fuelling.ending ? 'ending' : '',
+    point.nozzle === null ? '' : point.nozzle + ' ' + site.names.get(point.product)]);
+  const who = point.holder === null ? '' : 'held by till ' + point.holder;
+  const words = presetWords(fuelling);
+  // The preset stands beside the holder where nothing else does.
+  const above = out === '' ? '' : words, beside = out === '' ? words : out;
+  const gap = gapWords((site.gaps ?? []).filter(one => one.point === point.number));
+  put(missing, gone);
+  count(missing, gone);
+  putLong(wrong, gap);
+  count(wrong, gap);
+  put(limit, above);
+  count(limit, above);
+  putLong(part(line, 'span', 'out'), beside);
+  put(part(line, 'span', 'who'), who);
+  count(line, beside + ' ' + who);
+  line.hidden = beside + who === '';
+  fill(dues, 'div', sales, (box, sale) => showSale(box, sale, site));
+  const paid = sales.filter(sale => sale.prepaid !== null).length;
+  const lines = [missing, wrong, limit, line].filter(one => !one.hidden).length;
+  // The heights of its lines: of large ones, and where all are alike.
+  tile.style.setProperty('--high',
+    2.7 + 2.3 * flows + 1.2 * lines + 3.8 * sales.length + 2.3 * paid);
+  tile.style.setProperty('--low',
+    1.5 + 1.4 * flows + 1.07 * lines + 2.2 * sales.length + 1.12 * paid);
 }
+
+// ---- the foot, and the second view
 
 function showProduct(box, product) {
-  const title = part(box, 'p', 'title');
-  putLong(part(title, 'span', 'name'), product.number + ' ' + product.name);
-  put(part(title, 'span', 'price'), mills(product.mills));
-  put(part(box, 'p', 'dim'), 'metered ' + litres(product.metered, 3) + ' l');
-  fill(part(box, 'div', 'bar'), 'i', PARTS, (bar, name) => {
-    bar.style.flexGrow = product[name];
-    bar.style.background = colour(name);
-  });
-  fill(part(box, 'div', 'parts'), 'span', PARTS, (word, name) => {
-    word.style.textDecorationColor = colour(name);
-    put(word, name + ' ' + litres(product[name], 1));
-  });
+  const title = part(box, 'h2', 'title'), line = part(box, 'p', 'metered');
+  const metered = spaced(litres(product.metered)) + ' l', price = mills(product.mills);
+  put(title, product.name);
+  count(title, product.name);
+  put(part(line, 'b', 'flowed'), metered);
+  put(part(line, 'span', 'price'), price);
+  count(line, metered + ' ', price);
 }
 
 function showTill(line, till) {
   put(line, 'till ' + till.number + (till['signed on'] ? ' on, ' : ' off, ') + till.clears +
-    ' for ' + money(till.cents));
-  line.title = 'cleared in this shift: ' + till.clears + ' for ' + money(till.cents);
+    ' for ' + spaced(money(till.cents)));
 }
 
 function nodeName(session) {
@@ -227,56 +385,105 @@ function nodeName(session) {
     kind + ' ' + session.node;
 }
 
-function showSession(line, session) {
-  const since = session.since === null ? '' : ' since ' + moment(new Date(session.since)) + ',';
-  put(line, nodeName(session) + since + ' heard ' + session['quiet seconds'] + ' s ago');
+function showFigures(site, tills) {
+  const opened = site.opened === null ? '' : ' since ' + moment(new Date(site.opened));
+  put(at('shift'), 'shift ' + site.shift + opened);
+  put(at('since'), 'Shift ' + site.shift + (opened === '' ? '' : ', open' + opened));
+  table(at('takings'), ['', 'clears', 'for', ''], tills.map(till => ['till ' + till.number,
+    String(till.clears), spaced(money(till.cents)), till['signed on'] ? 'on' : 'off']));
+  const lines = site.products.map(product => [product.number + ' ' + product.name,
+    ...PARTS.map(name => exact(product[name])), exact(product.metered)]);
+  for (const id of ['parts', 'shares']) table(at(id), ['', ...PARTS, 'metered'], lines);
+  table(at('meters'), ['', 'nozzle', 'product', 'reads'], site.points.flatMap(point =>
+    point.nozzles.map(nozzle => ['pump ' + point.number, String(nozzle.number),
+      site.names.get(nozzle.product), exact(nozzle.reading)])));
+  put(at('peers'), site.connections + ' connections');
+  table(at('sessions'), ['', 'since', 'heard'], site.sessions.map(session => [nodeName(session),
+    session.since === null ? '' : moment(new Date(session.since)),
+    session['quiet seconds'] + ' s ago']));
+  put(at('rows'), site.rows + ' rows');
+  put(at('seal'), site.seal === null ? '' : 'last seal ' + site.seal);
 }
 
-function show(site) {
-  const names = new Map(site.products.map(product => [product.number, product.name]));
-  const count = site.points.length;
-  const points = at('points');
-  const columns = count > 42 ? 8 : count > 20 ? 6 : count > 12 ? 5 : count > 6 ? 4 : 3;
+// What changed since the last answer, for who listens to the page.
+function tellNews(site) {
+  const now = new Map(), news = [];
+  const tell = (key, name, words) => {
+    now.set(key, words);
+    if (told !== null && told.get(key) !== words) news.push(name + ' ' + words);
+  };
+  for (const point of site.points) tell(point.number, 'Pump ' + point.number, point['state name']);
+  for (const sale of site.transactions) tell(saleKey(sale), 'sale ' + saleName(sale, site.shift),
+    list([sale.prepaid === null ? '' : money(sale.prepaid) + ' prepaid', dueWords(sale),
+      sale.status === 'locked' ? 'till ' + sale.till + ' is collecting' : '']));
+  if (news.length > 0) at('news').textContent = news.join('. ');
+  told = now;
+}
+
+function headWords(site) {
+  const calls = site.points.filter(point => point.state === CALLING).length;
+  const open = site.transactions.filter(sale => due(sale) > 0);
+  const sum = open.reduce((cents, sale) => cents + due(sale), 0);
+  const paid = site.transactions.length - open.length;
+  return list([calls + ' calling', open.length + ' unpaid' +
+    (open.length === 0 ? '' : ' ' + spaced(money(sum))), paid === 0 ? '' : paid + ' prepaid']);
+}
+
+function show(answer) {
+  heard = answer.at === null ? new Date() : new Date(answer.at);
+  const site = {...answer, now: performance.now(), begun: new Map(),
+    names: new Map(answer.products.map(product => [product.number, product.name]))};
+  const size = site.points.length, points = at('points');
+  const columns = size > 42 ? 8 : size > 20 ? 6 : size > 12 ? 5 : size > 6 ? 4 : 3;
   points.style.setProperty('--cols', columns);
-  document.body.classList.toggle('many', columns === 8);
-  document.body.classList.toggle('some', columns === 5);
-  document.body.classList.toggle('few', columns < 5);
-  fill(points, 'article', site.points, (tile, point) => showPoint(tile, point, names,
-    site.transactions.filter(sale => sale.point === point.number)));
+  document.body.classList.toggle('many', size > 20);
+  fill(points, 'section', site.points, (section, point) => showPoint(section, point, site));
+  begun = site.begun;
+  const tills = site.tills.filter(till => till['signed on'] || till.clears > 0);
   fill(at('products'), 'section', site.products, showProduct);
-  fill(at('tills'), 'span', site.tills.filter(till => till['signed on'] || till.clears > 0),
-    showTill);
-  put(at('shift'), 'shift ' + site.shift +
-    (site.opened === null ? '' : ' since ' + moment(new Date(site.opened))));
-  at('shift').title = site.opened || '';
-  put(at('rows'), site.rows + ' rows');
-  put(at('peers'), site.connections + ' connections');
-  fill(at('sessions'), 'p', site.sessions, showSession);
-  put(at('seal'), site.seal === null ? '' : 'last seal ' + site.seal.slice(0, SEAL_SHOWN));
-  at('seal').title = site.seal || '';
-  put(at('made'), site.at === null ? '' : 'at ' + clock(new Date(site.at)));
-  at('made').title = site.at || '';
-  const unpaid = site.transactions.length;
-  put(at('state'), unpaid + ' unpaid' + (unpaid === 0 ? '' : ' ' + money(site['unpaid cents'])));
-  document.title = '(' + unpaid + ') Forecourt';
+  fill(at('tills'), 'span', tills, showTill);
+  showFigures(site, tills);
+  put(at('date'), day(heard));
+  put(at('clock'), clock(heard));
+  put(at('state'), headWords(site));
+  at('state').classList.toggle('calls', site.points.some(point => point.state === CALLING));
+  document.title = headWords(site);
+  tellNews(site);
+}
+
+function lose() {
+  const words = heard === null ? 'no answer yet' : 'no answer since ' + clock(heard);
+  if (!document.body.classList.contains('lost')) at('news').textContent = words;
+  put(at('state'), words);
+  document.title = words;
+  document.body.classList.add('lost');
 }
 
 async function look() {
-  const begun = Date.now();
+  const asked = performance.now();
   try {
     const answer = await fetch('/site.json',
       {cache: 'no-store', signal: AbortSignal.timeout(MOST_WAIT)});
     if (!answer.ok) throw new Error(answer.status);
     show(await answer.json());
-    heard = new Date();
     document.body.classList.remove('lost');
   } catch {
-    put(at('state'), 'no answer since ' + clock(heard));
-    document.title = '(?) Forecourt';
-    document.body.classList.add('lost');
+    lose();
   }
-  setTimeout(look, Math.max(0, PAUSE - (Date.now() - begun)));
+  setTimeout(look, Math.max(0, PAUSE - (performance.now() - asked)));
 }
+
+function turn() {
+  const second = location.hash === '#history';
+  at('points').hidden = second;
+  document.querySelector('footer').hidden = second;
+  at('figures').hidden = !second;
+  at(second ? 'to-figures' : 'to-points').setAttribute('aria-current', 'page');
+  at(second ? 'to-points' : 'to-figures').removeAttribute('aria-current');
+}
+
+addEventListener('hashchange', turn);
+turn();
 look();
 </script>
 </body>

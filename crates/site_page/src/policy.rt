@@ -5,6 +5,6 @@
 pub const POLICY: &str = concat!(
     "default-src 'none'; base-uri 'none'; form-action 'none'; frame-ancestors 'none'; ",
     "connect-src 'self'; ",
-    "style-src 'sha256-2rG21zvoTGAWSgZyL2P60PwxIOcCuoyuBxWelo6cflg='; ",
-    "script-src 'sha256-BnCCV8aKnarmILgI377sR6d2zp6aVnfEKLCPodmIjGA='",
+    "style-src 'sha256-fI930qTjU/4zxx9tSXDKs94h7Ir3pBojej7uSC452+A='; ",
+    "script-src 'sha256-QfEkiAOtSK6d8DjxLFJsAyI93ZXfObpKwHWHhPQtnJo='",
 );
