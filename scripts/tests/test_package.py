@@ -3,10 +3,12 @@ its own, runs from there, and leaves nothing behind when it is removed but the h
 `dpkg-deb` these tests are skipped; `lintian`, `systemd-analyze` and the shells are asked where they
 are installed."""
 
+import contextlib
 import functools
 import os
 import re
 import shutil
+import signal
 import subprocess
 import sys
 import urllib.request
@@ -14,12 +16,14 @@ import urllib.request
 from shared import manuals
 from shared.checks import Skipped, expect
 from shared.running import EXAMPLES, SCRIPTS, run
+from shared.serving import WAIT
 from tests.built import PROGRAM
 from tests.suite import make_folder, test
 
 HERE = make_folder()
 LEAST_SAFE = 2.5  # of systemd-analyze: 0 is the safest
 KEPT_BY_DPKG = re.compile(r"var/lib/dpkg/|etc/(passwd|group|shadow|gshadow|\.pwd\.lock)")
+STATION = "station --history history --doors doors --port 0 --page 0".split()
 SITE = "usr/share/doc/forecourt/examples/five_points.toml"
 
 
@@ -78,6 +82,7 @@ def wanted_files():
     pages = [f"forecourt-{name}" if name else "forecourt" for name in commands if name != "help"]
     return {
         "usr/bin/forecourt",
+        "usr/lib/forecourt/run-station",
         "usr/lib/systemd/system/forecourt@.service",
         "usr/lib/sysusers.d/forecourt.conf",
         "usr/lib/tmpfiles.d/forecourt.conf",
@@ -141,7 +146,9 @@ def the_unit_is_safe():
     need("systemd-analyze")
     unit = (unpacked() / "usr/lib/systemd/system/forecourt@.service").read_text()
     path = HERE / "forecourt@.service"
-    path.write_text(unit.replace("/usr/bin/forecourt", str(unpacked() / "usr/bin/forecourt")))
+    for program in ("usr/bin/forecourt", "usr/lib/forecourt/run-station"):
+        unit = unit.replace(f"/{program}", str(unpacked() / program))
+    path.write_text(unit)
     verified = run("systemd-analyze", "verify", "--man=no", path)
     expect("verify", (verified.status, verified.err), (0, ""))
     looked = run("systemd-analyze", "security", "--offline=true", "--no-pager", path)
@@ -168,21 +175,78 @@ def allowed_calls(unit):
     return allowed
 
 
-def trace_start(folder):
-    """The calls of the system that a station makes which answers a till at its door, and the page."""
-    words = "station --history history --doors doors --port 0 --page 0".split()
-    command = ["strace", "-f", "-qq", "-o", folder / "trace", PROGRAM, *words]
-    pipes = {"stdin": subprocess.PIPE, "stdout": subprocess.PIPE}
-    with subprocess.Popen(command, cwd=folder, **pipes) as station:
+@contextlib.contextmanager
+def run_station(folder, *words):
+    """A station, started as the unit does, that was asked at a door and by HTTP. It has to be
+    asked to end, and prints its report then. Words stand before the command."""
+    command = [*words, unpacked() / "usr/lib/forecourt/run-station", PROGRAM, *STATION]
+    with subprocess.Popen(command, cwd=folder, stdout=subprocess.PIPE) as station:
         page = next(line for line in station.stdout if line.startswith(b"page "))
         with urllib.request.urlopen(page.decode().split()[1] + "healthz") as answer:
             expect("healthz", answer.read(), b"ok\n")
         door = folder / "doors/till-01/socket"
         asked = run(PROGRAM, "ask", "--door", door, given=b"t1 SignOn\n")
         expect("ask", (asked.status, asked.err), (0, ""))
-        station.communicate()
-    expect("station", station.returncode, 0)
-    return set(re.findall(r"^\d+ +(\w+)\(", (folder / "trace").read_text(), re.M))
+        yield station
+        report = station.stdout.read().decode()
+    expect("station", (station.returncode, report[:5]), (0, "rows "))
+
+
+def make_site(name):
+    folder = HERE / name
+    (folder / "history").mkdir(parents=True)
+    (folder / "doors/till-01").mkdir(parents=True)
+    shutil.copy(EXAMPLES / "five_points.toml", folder / "history/site.toml")
+    return folder
+
+
+@test
+def a_stopped_unit_ends_its_day():
+    """Asked to end by SIGTERM or SIGINT, what the unit runs ends as at the end of standard input:
+    the till that is signed on is signed off in the history, and the report is printed."""
+    folder = make_site("stopped")
+    for number, asked in enumerate((signal.SIGTERM, signal.SIGINT), 1):
+        with run_station(folder) as station:
+            station.send_signal(asked)
+        rows = run(PROGRAM, "explain", folder / "history").out.decode()
+        expect("signed off", rows.count("SignOff"), number)
+
+
+@test
+def a_station_that_cannot_start_says_so():
+    """What the unit runs ends with the station's own status, and leaves nothing behind."""
+    folder = HERE / "no_site"
+    (folder / "tmp").mkdir(parents=True)
+    command = [unpacked() / "usr/lib/forecourt/run-station", PROGRAM, *STATION]
+    ended = run("env", f"TMPDIR={folder / 'tmp'}", *command, cwd=folder)
+    alone = run(PROGRAM, *STATION, cwd=folder)
+    expect("ended", (ended.status, ended.err), (alone.status, alone.err))
+    expect("left", list((folder / "tmp").iterdir()), [])
+
+
+@test
+def a_full_file_is_a_fault():
+    """At a limit of a file's size what the unit runs ends with `fault 62`, and not by a signal."""
+    folder = make_site("full")
+    run_it = unpacked() / "usr/lib/forecourt/run-station"
+    command = ["sh", "-c", 'ulimit -f 8; exec "$@"', "sh", run_it, PROGRAM, *STATION]
+    with subprocess.Popen(command, cwd=folder, stdout=-1, stderr=-1) as station:
+        next(line for line in station.stdout if line.startswith(b"page "))
+        door = folder / "doors/till-01/socket"
+        for _ in range(100):
+            if station.poll() is not None:
+                break
+            run(PROGRAM, "ask", "--door", door, given=b"t1 SignOn\nt1 SignOff\n" * 20)
+        expect("the end", (station.wait(WAIT), station.stderr.read()), (1, b"fault 62\n"))
+
+
+def trace_start(folder):
+    """The calls of the system that a station makes which answers a till at its door, and the page,
+    and of the shell that runs it."""
+    trace = folder / "trace"
+    with run_station(folder, "strace", "-f", "-qq", "-o", trace):
+        os.kill(int(trace.read_text().split()[0]), signal.SIGTERM)
+    return set(re.findall(r"^\d+ +(\w+)\(", trace.read_text(), re.M))
 
 
 @test
@@ -191,10 +255,7 @@ def the_unit_lets_the_station_call():
     call of the system that the unit's filter refuses."""
     need("systemd-analyze")
     need("strace")
-    folder = HERE / "station"
-    (folder / "history").mkdir(parents=True)
-    (folder / "doors/till-01").mkdir(parents=True)
-    shutil.copy(EXAMPLES / "five_points.toml", folder / "history/site.toml")
+    folder = make_site("station")
     made = trace_start(folder) | trace_start(folder)
     unit = (unpacked() / "usr/lib/systemd/system/forecourt@.service").read_text()
     expect("refused calls", made - allowed_calls(unit) - {"execve"}, set())
