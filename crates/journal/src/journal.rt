@@ -7,7 +7,7 @@ ghost use Rattle.chapters.specs.declared.history_end.TheConstants.{MOST_CHAPTERS
 ghost use Rattle.std.specs.List.{AllByRecursion};
 ghost use Rattle.chapters.specs.RowText.{IsSent, kept_behind};
 ghost use Rattle.journal.specs.ChapterEnds.{IsEnd, may_try, rows_kept};
-ghost use Rattle.journal.specs.Disks.{Keeps, OfFiles};
+ghost use Rattle.journal.specs.Disks.{Keeps, OfFile, OfFiles};
 ghost use Rattle.chapters.specs.Rounds.{time_behind};
 ghost use Rattle.chapters.specs.OpenShift.{open_since};
 ghost use Rattle.journal.specs.Stored.{GrowsByLines, HasBegun, IsJournalOf, first_stored};
@@ -143,6 +143,18 @@ impl<D: Disk> Journal<D> {
         ensures { result.now ≡ self.now.end.seal }
     {
         self.end.last_seal()
+    }
+
+    /// When the round began that ended with the last seal, if one has since the start.
+    pub(crate) fn sealed_at(&self) -> Option<Instant> {
+        self.sealed_at
+    }
+
+    /// So many chapters of it are closed.
+    pub(crate) fn closed(&self) -> u64
+        ensures { OfFile (λ f. result ≡ length f.closed) self.now.file }
+    {
+        self.disk.closed()
     }
 
     /// The last time that it tells, if it tells one.

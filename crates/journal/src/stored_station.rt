@@ -18,6 +18,7 @@ ghost use Rattle.chapters.specs.History.{IsHistory, empty_book};
 ghost use Rattle.chapters.specs.RowText.{IsSent};
 ghost use Rattle.journal.specs.declared.memory.TheConstants.{LEAST_ROWS};
 ghost use Rattle.journal.specs.ChapterEnds.{IsEndOf};
+ghost use Rattle.journal.specs.Disks.{OfFile};
 ghost use Rattle.journal.specs.Memory.{HasRoomToHear, is_crowded};
 ghost use Rattle.journal.specs.Opening.{HasNobodyOn};
 ghost use Rattle.journal.specs.Stored.{IsJournalOf, JournalGoesOn, LeavesReadsOut};
@@ -242,6 +243,27 @@ impl<D: Disk> StoredStation<D> {
         match &self.journal {
             None => None,
             Some(journal) => Some(journal.last_seal()),
+        }
+    }
+
+    /// When the round began that ended with the last seal, if there is a history, and a round has
+    /// ended with one since the start.
+    pub fn sealed_at(&self) -> Option<Instant> {
+        match &self.journal {
+            None => None,
+            Some(journal) => journal.sealed_at(),
+        }
+    }
+
+    /// How many chapters of the history are closed; None without a history.
+    pub fn closed_chapters(&self) -> Option<u64>
+        ensures count { IfSome result (λ count. IfSome self.now.journal
+            (λ j. OfFile (λ f. count ≡ length f.closed) j.file)) }
+        ensures there { is_some result ≡ is_some self.now.journal }
+    {
+        match &self.journal {
+            None => None,
+            Some(journal) => Some(journal.closed()),
         }
     }
 

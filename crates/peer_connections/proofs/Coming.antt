@@ -162,6 +162,58 @@ leaves_one k j ms one is = by_key (j == k) refl (sym (ap (leaves_in k) one) ∙ 
     by_key true same _ = let here : j ≡ k = grind (arith, nat_tests) in sym here
     by_key false other is = absurd (let never : false ≡ true = is in cc)
 
+-- in the first of two, or in the second
+leaves_more : (k : ℕ) (ms more : List Move) → leaves_in k ms ≡ true
+    → leaves_in k (ms ++ more) ≡ true
+leaves_more k [] more is = absurd (let never : false ≡ true = is in cc)
+leaves_more k (m ∷ ms) more is = by_first (is_leave k m) (leaves_more k ms more) is
+  where
+    by_first : (b : Bool) → (leaves_in k ms ≡ true → leaves_in k (ms ++ more) ≡ true)
+        → (b || leaves_in k ms) ≡ true → (b || leaves_in k (ms ++ more)) ≡ true
+    by_first true later is = refl
+    by_first false later is = later is
+
+leaves_behind : (k : ℕ) (ms more : List Move) → leaves_in k more ≡ true
+    → leaves_in k (ms ++ more) ≡ true
+leaves_behind k [] more is = is
+leaves_behind k (m ∷ ms) more is = by_first (is_leave k m) (leaves_behind k ms more is)
+  where
+    by_first : (b : Bool) → leaves_in k (ms ++ more) ≡ true
+        → (b || leaves_in k (ms ++ more)) ≡ true
+    by_first true later = refl
+    by_first false later = later
+
+leaves_first : (k : ℕ) (allowed : Move → StationState → Type 0) (s t u : StoredState)
+    (one : ReachesBy allowed s t) (two : ReachesBy allowed t u)
+    → leaves_in k one.moves ≡ true
+    → leaves_in k (reaches_then allowed s t u one two).moves ≡ true
+leaves_first k allowed s t u one two is =
+    ap (leaves_in k) (moves_of_both allowed s t u one two)
+    ∙ leaves_more k one.moves two.moves is
+
+leaves_last : (k : ℕ) (allowed : Move → StationState → Type 0) (s t u : StoredState)
+    (one : ReachesBy allowed s t) (two : ReachesBy allowed t u)
+    → leaves_in k two.moves ≡ true
+    → leaves_in k (reaches_then allowed s t u one two).moves ≡ true
+leaves_last k allowed s t u one two is =
+    ap (leaves_in k) (moves_of_both allowed s t u one two)
+    ∙ leaves_behind k one.moves two.moves is
+
+leaves_alone : (k j : ℕ) → k ≡ j → leaves_in k (Leaves j ∷ []) ≡ true
+leaves_alone k j same = by_test (j == k) refl
+  where
+    by_test : (b : Bool) → (j == k) ≡ b → (b || false) ≡ true
+    by_test true is = refl
+    by_test false is =
+        let apart : j ≢ k = grind (arith, nat_tests) in absurd (apart (sym same))
+
+-- no connection goes where they stay
+none_went : {L : Type 0} (k : ℕ) (links links' : List (Option L))
+    → get_or links' k None ≡ get_or links k None → has_link links k ≡ true
+    → has_link links' k ≡ false → ⊥
+none_went k links links' same was gone =
+    let never : true ≡ false = sym was ∙ sym (ap is_some same) ∙ gone in cc
+
 gone_at : {L : Type 0} (k j : ℕ) (links : List (Option L)) → k ≡ j → has_link links j ≡ false
     → get_or links k None ≡ None
 gone_at k j links same gone =
@@ -175,6 +227,8 @@ dismisses_none door links links' s t same stays = record {
   moves = reaches_same (IsDismissal door) s t stays;
   stay = stay_same links links' same;
   gone = λ k leaves. absurd (leaves_none k _ (moves_of_same (IsDismissal door) s t stays) leaves);
+  went = λ k was gone. absurd (none_went k links links'
+      (ap (λ (l : List (Option _)). get_or l k None) same) was gone);
 }
 
 pub dismisses_one : {L : Type 0} (door : Option ℕ) (key : ℕ) (links links' : List (Option L))
@@ -186,7 +240,18 @@ dismisses_one door key links links' s t place unserved left others gone = record
   stay = one_goes key links links' others gone;
   gone = λ k leaves. gone_at k key links'
       (leaves_one k key _ (moves_of_dismissed door key s t place unserved left) leaves) gone;
+  went = λ k was goes. ap (leaves_in k) (moves_of_dismissed door key s t place unserved left)
+      ∙ leaves_alone k key (at_key k was goes);
 }
+  where
+    at_key : (k : ℕ) → has_link links k ≡ true → has_link links' k ≡ false → k ≡ key
+    at_key k was goes = by_key (k == key) refl
+      where
+        by_key : (b : Bool) → (k == key) ≡ b → k ≡ key
+        by_key true here = grind (arith, nat_tests)
+        by_key false other =
+            let apart : k ≢ key = grind (arith, nat_tests) in
+            absurd (none_went k links links' (others.1 k apart) was goes)
 
 pub moves_of_dismisses : {L : Type 0} (door : Option ℕ) (links links' : List (Option L))
     (s t : StoredState) → Dismisses door links links' s t → ReachesBy (IsDismissal door) s t
@@ -201,6 +266,8 @@ welcomes_dismissed left got door stream links links' s t by = record {
   comes = comes_none left got stream links links' by.stay;
   gone = λ k leaves. inl (by.gone k
       (sym (ap (leaves_in k) (moves_of_welcome door s t by.moves)) ∙ leaves));
+  went = λ k was goes. ap (leaves_in k) (moves_of_welcome door s t by.moves) ∙ by.went k was goes;
+  fresh = λ k. inl (by.stay k);
 }
 
 pub welcomes_way : {S : Type 0} (left got : S → Option (List ℕ)) (door : Option ℕ) (stream : S)
@@ -211,6 +278,8 @@ welcomes_way left got door stream links links' s t by = record {
   comes = comes_none left got stream links links' by.stay;
   gone = λ k leaves. inl (by.gone k
       (sym (ap (leaves_in k) (moves_of_way door s t by.moves)) ∙ leaves));
+  went = λ k was goes. ap (leaves_in k) (moves_of_way door s t by.moves) ∙ by.went k was goes;
+  fresh = λ k. inl (by.stay k);
 }
 
 -- ---- a peer comes
@@ -224,6 +293,9 @@ welcomes_nobody left got door stream links links' s t by same = record {
   comes = comes_none left got stream links links' (stay_same links links' same);
   gone = λ k leaves.
       absurd (let never : false ≡ true = sym (arriving_stay door k s t by) ∙ leaves in cc);
+  went = λ k was goes. absurd (none_went k links links'
+      (ap (λ (l : List (Option _)). get_or l k None) same) was goes);
+  fresh = λ k. inl (stay_same links links' same k);
 }
 
 -- it gets one, and its connection, or leaves
@@ -242,8 +314,29 @@ welcomes_arrived {S = S} left got door stream key links links' s t u by place un
       gone = λ k is. by_part k
           (leaves_then k (IsWelcome door) s t u (reaches_arriving door s t by)
           (reaches_unlinked door key t u place unserved leaves) is);
+      went = λ k was goes. absurd (stays_there k (k == key) refl was goes);
+      fresh = λ k. is_fresh k (k == key) refl;
     }
   where
+    stays_there : (k : ℕ) (b : Bool) → (k == key) ≡ b → has_link links k ≡ true
+        → has_link links' k ≡ false → ⊥
+    stays_there k true here was goes =
+        let same : k ≡ key = grind (arith, nat_tests) in
+        let never : true ≡ false = sym was ∙ ap (λ (i : ℕ). has_link links i) same ∙ none in cc
+    stays_there k false other was goes =
+        let apart : k ≢ key = grind (arith, nat_tests) in
+        none_went k links links' (others.1 k apart) was goes
+
+    is_fresh : (k : ℕ) (b : Bool) → (k == key) ≡ b
+        → (StaysOrGoes links links' k) ⊎ (has_link links k ≡ false)
+        ⊎ (leaves_in k (reaches_then (IsWelcome door) s t u (reaches_arriving door s t by)
+        (reaches_unlinked door key t u place unserved leaves)).moves ≡ true)
+    is_fresh k true here =
+        let same : k ≡ key = grind (arith, nat_tests) in
+        inr (inl (ap (λ (i : ℕ). has_link links i) same ∙ none))
+    is_fresh k false other =
+        let apart : k ≢ key = grind (arith, nat_tests) in inl (inl (others.1 k apart))
+
     there : (StaysOrGoes links links' key) ⊎ (IsOver left got stream links' key)
         → (get_or links' key None ≡ None) ⊎ (IsOver left got stream links' key)
     there (inl (inl stays)) = inl (stays ∙ none_there (get_or links key None) none)
@@ -321,8 +414,38 @@ welcomes_then {S = S} left got door stream a b c s t u one two comes = record {
   moves = reaches_then (IsWelcome door) s t u one.moves two.moves;
   comes = comes;
   gone = λ k is. by_part k (leaves_then k (IsWelcome door) s t u one.moves two.moves is);
+  went = λ k was goes. by_there k was goes (has_link b k) refl;
+  fresh = λ k. by_fresh k (one.fresh k) (two.fresh k);
 }
   where
+    by_there : (k : ℕ) → has_link a k ≡ true → has_link c k ≡ false → (is : Bool)
+        → has_link b k ≡ is
+        → leaves_in k (reaches_then (IsWelcome door) s t u one.moves two.moves).moves ≡ true
+    by_there k was goes true there =
+        leaves_last k (IsWelcome door) s t u one.moves two.moves (two.went k there goes)
+    by_there k was goes false there =
+        leaves_first k (IsWelcome door) s t u one.moves two.moves (one.went k was there)
+
+    by_was : (k : ℕ) (is : Bool) → has_link a k ≡ is → has_link b k ≡ false
+        → (StaysOrGoes a c k) ⊎ (has_link a k ≡ false)
+        ⊎ (leaves_in k (reaches_then (IsWelcome door) s t u one.moves two.moves).moves ≡ true)
+    by_was k true was free =
+        inr (inr (leaves_first k (IsWelcome door) s t u one.moves two.moves (one.went k was free)))
+    by_was k false was free = inr (inl was)
+
+    by_fresh : (k : ℕ)
+        → (StaysOrGoes a b k) ⊎ (has_link a k ≡ false) ⊎ (leaves_in k one.moves.moves ≡ true)
+        → (StaysOrGoes b c k) ⊎ (has_link b k ≡ false) ⊎ (leaves_in k two.moves.moves ≡ true)
+        → (StaysOrGoes a c k) ⊎ (has_link a k ≡ false)
+        ⊎ (leaves_in k (reaches_then (IsWelcome door) s t u one.moves two.moves).moves ≡ true)
+    by_fresh k first (inr (inr left)) =
+        inr (inr (leaves_last k (IsWelcome door) s t u one.moves two.moves left))
+    by_fresh k first (inr (inl free)) = by_was k (has_link a k) refl free
+    by_fresh k (inl stays) (inl too) = inl (stay_then_at a b c k stays too)
+    by_fresh k (inr (inl free)) (inl too) = inr (inl free)
+    by_fresh k (inr (inr left)) (inl too) =
+        inr (inr (leaves_first k (IsWelcome door) s t u one.moves two.moves left))
+
     by_part : (k : ℕ) → (leaves_in k one.moves.moves ≡ true) ⊎ (leaves_in k two.moves.moves ≡ true)
         → (get_or c k None ≡ None) ⊎ (IsOver left got stream c k)
     by_part k (inl is) = gone_then left got stream k b c two.comes (one.gone k is)

@@ -14,7 +14,7 @@ use Rattle.peer_connections.specs.declared.link.Channel.TheVariants.{Failed}
 use Rattle.peer_connections.specs.declared.link.Link.{Link}
 use Rattle.peer_connections.specs.Allowed.{IsSending}
 use Rattle.peer_connections.specs.Links.{ArePaired, has_link, has_peer}
-use Rattle.peer_connections.specs.Sending.{FailsAt, IsLetGo}
+use Rattle.peer_connections.specs.Sending.{FailsAt, IsLetGo, WorksAt}
 use Rattle.peer_connections.specs.Streams.{StaysKnownAt, HearsStream, SendsStream, known_at}
 use Rattle.peer_connections.specs.Streams.{StayKnown, known_of}
 use Rattle.peer_connections.proofs.Leaving.{left_gone}
@@ -161,7 +161,7 @@ pub let_go_behind : {L : Type 0} (key : ℕ) (s : StationState) (links links' : 
     → end_at s key ≡ Some Behind → IsLetGo key s links links'
 let_go_behind key s links links' behind was gone = inl behind
 
-unowed : (octets : List ℕ) → not (length octets == 0) ≡ false → octets ≡ []
+pub unowed : (octets : List ℕ) → not (length octets == 0) ≡ false → octets ≡ []
 unowed [] is = refl
 unowed (x ∷ octets) is = by_test (length (x ∷ octets) == 0) refl is
   where
@@ -212,6 +212,39 @@ pub fails_there : {S : Type 0} (key : ℕ) (links : List (Option (Link S))) (old
 fails_there {S = S} key links old link is failed =
     subst (λ (l : Option (Link S)). FailsAt l) (sym (set_there key links old link is)) failed
 
+-- .. or it hasn't
+pub works_there : {S : Type 0} (key : ℕ) (links : List (Option (Link S))) (old link : Link S)
+    → get_or links key None ≡ Some old → link.channel ≢ Failed
+    → WorksAt (get_or (set links key (Some link)) key None)
+works_there {S = S} key links old link is works failed =
+    works (subst (λ (l : Option (Link S)). FailsAt l) (set_there key links old link is) failed)
+
+pub works_none : {S : Type 0} (key : ℕ) (links : List (Option (Link S)))
+    → get_or links key None ≡ None → WorksAt (get_or links key None)
+works_none {S = S} key links none failed =
+    subst (λ (l : Option (Link S)). FailsAt l) none failed
+
+-- it stays so, while something else is done
+pub works_same : {S : Type 0} (key : ℕ) (links links' : List (Option (Link S))) → links' ≡ links
+    → WorksAt (get_or links key None) → WorksAt (get_or links' key None)
+works_same {S = S} key links links' same works =
+    subst (λ (l : List (Option (Link S))). WorksAt (get_or l key None)) (sym same) works
+
+pub works_set : {S : Type 0} (key : ℕ) (links : List (Option (Link S))) (old link : Link S)
+    → get_or links key None ≡ Some old → link.channel ≡ old.channel
+    → WorksAt (get_or links key None) → WorksAt (get_or (set links key (Some link)) key None)
+works_set {S = S} key links old link is same works =
+    works_there key links old link is
+    (λ failed. works (subst (λ (l : Option (Link S)). FailsAt l) (sym is) (sym same ∙ failed)))
+
+pub works_gone : {S : Type 0} (key : ℕ) (links : List (Option (Link S)))
+    → has_link links key ≡ false → WorksAt (get_or links key None)
+works_gone {S = S} key links = by_link (get_or links key None)
+  where
+    by_link : (l : Option (Link S)) → is_some l ≡ false → WorksAt l
+    by_link None gone failed = failed
+    by_link (Some link) gone failed = absurd (let never : true ≡ false = gone in cc)
+
 -- a connection of which nothing is read, and that is sent nothing
 pub ruleset known_as_before = (
   known_same,
@@ -239,5 +272,11 @@ pub ruleset known = (
   let_go_not,
   let_go_behind,
   let_go_unowed,
+  unowed,
   fails_there,
+  works_there,
+  works_none,
+  works_same,
+  works_set,
+  works_gone,
 )

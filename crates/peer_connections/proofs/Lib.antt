@@ -11,3 +11,4 @@ pub mod Reaching
 pub mod Seeing
 pub mod Sent
 pub mod Streaming
+pub mod Tallying

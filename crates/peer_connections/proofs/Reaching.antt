@@ -28,7 +28,7 @@ use Rattle.connection_calls.specs.declared.call.Call.TheVariants.{Ended, Failed,
 use Rattle.connection_calls.specs.declared.call.Call.TheVariants.{Passed, Waits}
 use Rattle.peer_connections.specs.Allowed.{IsClosing, IsDismissal, IsEnding, IsFollowing}
 use Rattle.peer_connections.specs.Allowed.{IsHeard, IsHearing, IsLate, IsOwn, IsPassing}
-use Rattle.peer_connections.specs.Allowed.{IsArrival, IsSameOrLeft}
+use Rattle.peer_connections.specs.Allowed.{IsArrival, IsFinishing, IsSameOrLeft, IsTaking}
 use Rattle.peer_connections.specs.Allowed.{IsSending, IsWelcome, is_known, is_place_of}
 use Rattle.peer_connections.specs.Allowed.{is_served_at, lasts, lasts_at}
 use Rattle.peer_connections.specs.Calls.{HearsCall, HearsWithRoom, SendsCall}
@@ -218,15 +218,41 @@ reaches_following k s t by = reaches_wider (IsClosing k) IsFollowing wider s t b
     wider Forgets u is = absurd is
 
 -- .. may be sent to at the day's end
-pub reaches_ending : (k : ℕ) (s t : StoredState) → ReachesBy (IsSending k) s t
-    → ReachesBy IsEnding s t
-reaches_ending k s t by = reaches_wider (IsSending k) IsEnding wider s t by
+pub reaches_taking : (k : ℕ) (s t : StoredState) → ReachesBy (IsSending k) s t
+    → ReachesBy IsTaking s t
+reaches_taking k s t by = reaches_wider (IsSending k) IsTaking wider s t by
   where
-    wider : (m : Move) (u : StationState) → IsSending k m u → IsEnding m u
+    wider : (m : Move) (u : StationState) → IsSending k m u → IsTaking m u
     wider (Takes j n) u is = tt
     wider (Arrives j door) u is = absurd is
     wider (Says memory j octets) u is = absurd is
     wider (Finishes j) u is = absurd is
+    wider (Leaves j) u is = absurd is
+    wider (EndsRelease on off p) u is = absurd is
+    wider (Loses memory p) u is = absurd is
+    wider Forgets u is = absurd is
+
+pub reaches_taken : (s t : StoredState) → ReachesBy IsTaking s t → ReachesBy IsEnding s t
+reaches_taken s t by = reaches_wider IsTaking IsEnding wider s t by
+  where
+    wider : (m : Move) (u : StationState) → IsTaking m u → IsEnding m u
+    wider (Takes j n) u is = tt
+    wider (Arrives j door) u is = absurd is
+    wider (Says memory j octets) u is = absurd is
+    wider (Finishes j) u is = absurd is
+    wider (Leaves j) u is = absurd is
+    wider (EndsRelease on off p) u is = absurd is
+    wider (Loses memory p) u is = absurd is
+    wider Forgets u is = absurd is
+
+pub reaches_over : (s t : StoredState) → ReachesBy IsFinishing s t → ReachesBy IsEnding s t
+reaches_over s t by = reaches_wider IsFinishing IsEnding wider s t by
+  where
+    wider : (m : Move) (u : StationState) → IsFinishing m u → IsEnding m u
+    wider (Finishes j) u is = tt
+    wider (Arrives j door) u is = absurd is
+    wider (Says memory j octets) u is = absurd is
+    wider (Takes j n) u is = absurd is
     wider (Leaves j) u is = absurd is
     wider (EndsRelease on off p) u is = absurd is
     wider (Loses memory p) u is = absurd is
@@ -301,8 +327,8 @@ reaches_late k s t left = reaches_moved (IsLate k) (Leaves k) s t tt refl left
 
 -- .. at the day's end
 pub reaches_ended : (k : ℕ) (s t : StoredState) → t ≡ with_station (with_end k s.station) s
-    → ReachesBy IsEnding s t
-reaches_ended k s t end = reaches_moved IsEnding (Finishes k) s t tt tt end
+    → ReachesBy IsFinishing s t
+reaches_ended k s t end = reaches_moved IsFinishing (Finishes k) s t tt tt end
 
 pub reaches_left : (k : ℕ) (s t : StoredState) → t ≡ with_station (without_peer k s.station) s
     → ReachesBy IsEnding s t
@@ -636,7 +662,9 @@ pub ruleset ended = (
   reaches_same,
   reaches_then,
   reaches_kept,
-  reaches_ending,
+  reaches_taking,
+  reaches_taken,
+  reaches_over,
   reaches_ended,
   reaches_left,
 )

@@ -115,6 +115,16 @@ IsFollowing (Finishes j) s = ⊤
 IsFollowing (Leaves j) s = lasts_at s j ≡ false
 IsFollowing m s = ⊥
 
+-- sessions end
+abbrev pub IsFinishing : Move → StationState → Type 0
+IsFinishing (Finishes j) s = ⊤
+IsFinishing m s = ⊥
+
+-- peers take what they are owed
+abbrev pub IsTaking : Move → StationState → Type 0
+IsTaking (Takes j n) s = ⊤
+IsTaking m s = ⊥
+
 -- the day ends: peers take what they are owed, sessions end, and peers leave
 abbrev pub IsEnding : Move → StationState → Type 0
 IsEnding (Takes j n) s = ⊤

@@ -7,7 +7,7 @@ use Rattle.peer_connections.specs.declared.link.Link.{Link}
 use Rattle.peer_connections.specs.declared.places.Arrival.{Arrival}
 use Rattle.peer_connections.specs.declared.places.Arrival.TheVariants.{Done, NoMemory, NoPlace}
 use Rattle.peer_connections.specs.Allowed.{IsDismissal, IsWelcome}
-use Rattle.peer_connections.specs.Links.{StayOrGo, StaysOrGoes}
+use Rattle.peer_connections.specs.Links.{StayOrGo, StaysOrGoes, has_link}
 use Rattle.peer_connections.specs.Reaches.{ReachesBy}
 use Rattle.peer_connections.specs.Streams.{known_at}
 
@@ -44,18 +44,26 @@ abbrev pub leaves_in : ℕ → List Move → Bool
 leaves_in k [] = false
 leaves_in k (m ∷ ms) = is_leave k m || leaves_in k ms
 
--- Peers that aren't served leave, of this door or over TCP, and their connections with them.
+-- Peers that aren't served leave, of this door or over TCP, and their connections with them; no
+-- other connection goes.
 pub record Dismisses {L : Type 0} (door : Option ℕ) (links links' : List (Option L))
     (earlier later : StoredState) : Type 0 where
   pub moves : ReachesBy (IsDismissal door) earlier later
   pub stay : StayOrGo links links'
   pub gone : (k : ℕ) → leaves_in k moves.moves ≡ true → get_or links' k None ≡ None
+  pub went : (k : ℕ) → has_link links k ≡ true → has_link links' k ≡ false
+      → leaves_in k moves.moves ≡ true
 
 -- A peer comes over this stream, at a door or over TCP. Those who leave for it take their
--- connections with them: at such a key there is none then, or the one over this stream.
+-- connections with them, and no other goes: at such a key there is none then, or the one over this
+-- stream. That stands at a key that was free, or whose peer has left.
 pub record Welcomes {S : Type 0} (left got : S → Option (List ℕ)) (door : Option ℕ) (stream : S)
     (links links' : List (Option (Link S))) (earlier later : StoredState) : Type 0 where
   pub moves : ReachesBy (IsWelcome door) earlier later
   pub comes : OneComes left got stream links links'
   pub gone : (k : ℕ) → leaves_in k moves.moves ≡ true
       → (get_or links' k None ≡ None) ⊎ (IsOver left got stream links' k)
+  pub went : (k : ℕ) → has_link links k ≡ true → has_link links' k ≡ false
+      → leaves_in k moves.moves ≡ true
+  pub fresh : (k : ℕ) → (StaysOrGoes links links' k) ⊎ (has_link links k ≡ false)
+      ⊎ (leaves_in k moves.moves ≡ true)

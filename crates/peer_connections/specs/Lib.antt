@@ -7,3 +7,4 @@ pub mod Links
 pub mod Reaches
 pub mod Sending
 pub mod Streams
+pub mod Tallied

@@ -1,5 +1,5 @@
 -- Who is to be sent what it is owed.
-use Rattle.std.specs.Prelude.{◌≡◌, ◌≢◌, ◌≤◌, ◌⊎◌, ℕ, Bool, true, false, List, [], Option, Some}
+use Rattle.std.specs.Prelude.{◌≡◌, ◌≢◌, ◌<◌, ◌≤◌, ◌⊎◌, ℕ, Bool, true, false, List, [], Option, Some}
 use Rattle.std.specs.Prelude.{◌++◌, None, get_or, length, slice_get}
 use Rattle.site_base.specs.declared.row.Row.{Row}
 use Rattle.site_book.specs.Book.{Book}
@@ -75,6 +75,10 @@ abbrev pub FailsAt : {S : Type 0} → Option (Link S) → Type 0
 FailsAt None = ⊥
 FailsAt (Some link) = link.channel ≡ Failed
 
+-- one that hasn't, or none
+abbrev pub WorksAt : {S : Type 0} → Option (Link S) → Type 0
+WorksAt l = FailsAt l → ⊥
+
 -- A key's peer, if it was there and is no more, was let go: its session ended since it doesn't take
 -- what it is owed, or it is owed nothing.
 abbrev pub IsLetGo : {L : Type 0} → ℕ → StationState → List (Option L) → List (Option L) → Type 0
@@ -89,6 +93,10 @@ IsSentTo key s links = (told_at s key ≡ []) ⊎ StopsAt (get_or links key None
 -- .. each peer of these keys
 abbrev pub AreSentTo : {S : Type 0} → List ℕ → StoredState → List (Option (Link S)) → Type 0
 AreSentTo due s links = (k : ℕ) → is_due due k ≡ true → IsSentTo k s links
+
+-- .. each below this key
+abbrev pub AllAreSentTo : {S : Type 0} → ℕ → StoredState → List (Option (Link S)) → Type 0
+AllAreSentTo last s links = (k : ℕ) → k < last → IsSentTo k s links
 
 -- Each peer that was owed octets may be told nothing more, or its connection has stopped, or took
 -- none for then.

@@ -1,7 +1,9 @@
 -- What a peer says is what is read of its connection, and what is sent there is what it may be
 -- told.
-use Rattle.std.specs.Prelude.{◌≡◌, ◌⊎◌, ℕ, List, [], ◌∷◌, ◌++◌, Option, Some, None, get_or, true}
+use Rattle.std.specs.Prelude.{◌≡◌, ◌⊎◌, ℕ, List, [], ◌∷◌, ◌++◌, Option, Some, None, false}
+use Rattle.std.specs.Prelude.{get_or, true}
 use Rattle.std.specs.Io.KnownBytes.{Appends, Consumes}
+use Rattle.station.specs.Moves.{StationState}
 use Rattle.station.specs.Reads.{owed_at}
 use Rattle.station.specs.Runs.{Move, Says}
 use Rattle.journal.specs.Stored.{StoredState, told_at}
@@ -9,7 +11,7 @@ use Rattle.peer_connections.specs.declared.link.Link.{Link}
 use Rattle.peer_connections.specs.Allowed.{IsClosing, IsHearing, IsSending}
 use Rattle.peer_connections.specs.Links.{OthersStay, has_link}
 use Rattle.peer_connections.specs.Reaches.{ReachesBy}
-use Rattle.peer_connections.specs.Sending.{FailsAt, IsLetGo}
+use Rattle.peer_connections.specs.Sending.{WorksAt}
 
 -- the octets that come with a move
 abbrev pub said_with : Move → List ℕ
@@ -68,7 +70,7 @@ abbrev pub AllStayKnown : {S : Type 0} → (S → Option (List ℕ)) → List (O
 AllStayKnown known links links' = (k : ℕ) → StaysKnownAt known k links links'
 
 -- The peer of this key is sent to, by its own connection. Then that follows its session, and gets
--- no more. The peer leaves if the connection has failed, or if it is let go.
+-- no more. If the peer stays, its connection hasn't failed, and nothing else is done.
 pub record SendsAndFollows {S : Type 0} (got : S → Option (List ℕ)) (key : ℕ)
     (links links' : List (Option (Link S))) (earlier later : StoredState) : Type 0 where
   pub sent_to : StoredState
@@ -79,21 +81,25 @@ pub record SendsAndFollows {S : Type 0} (got : S → Option (List ℕ)) (key : �
   pub no_more : StaysKnownAt got key between links'
   pub there : has_link links' key ≡ true → has_link links key ≡ true
   pub stays : has_link links' key ≡ true → later ≡ sent_to
-  pub let_go : FailsAt (get_or between key None) ⊎ IsLetGo key sent_to.station between links'
+  pub works : WorksAt (get_or links' key None)
 
 -- ---- of all connections
 
--- The connection of a key is the one that was: what it got stays, and perhaps more comes behind it.
+-- The connection of a key is the one that was, and what it got stays. What it got more is the front
+-- of what its peer was owed, and of what rows that were added since tell it; the rest is owed still.
 pub record GetsMore {S : Type 0} (got : S → Option (List ℕ)) (key : ℕ)
-    (links links' : List (Option (Link S))) : Type 0 where
+    (links links' : List (Option (Link S))) (earlier later : StationState) : Type 0 where
   pub was : has_link links key ≡ true
   pub sent : List ℕ
   pub written : Appends (known_at got links key) (known_at got links' key) sent
+  pub added : List ℕ
+  pub owed : owed_at earlier key ++ added ≡ sent ++ owed_at later key
 
 -- .. that of each key, if it is still there
 abbrev pub AllGetMore : {S : Type 0} → (S → Option (List ℕ)) → List (Option (Link S))
-    → List (Option (Link S)) → Type 0
-AllGetMore got links links' = (k : ℕ) → has_link links' k ≡ true → GetsMore got k links links'
+    → List (Option (Link S)) → StationState → StationState → Type 0
+AllGetMore got links links' earlier later =
+    (k : ℕ) → has_link links' k ≡ true → GetsMore got k links links' earlier later
 
 -- What the connection of a key got is the front of what its peer might be told, and it may still be
 -- told the rest.

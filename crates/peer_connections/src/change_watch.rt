@@ -7,9 +7,12 @@ ghost use Rattle.site_book.specs.Changes.{is_changing};
 ghost use Rattle.journal.specs.Stored.{is_all_stored, time_of};
 ghost use Rattle.peer_connections.specs.Fed.{AreRead, BeginsChapter, with_rows};
 ghost use Rattle.peer_connections.specs.Sending.{HasChange, HasSeen};
+ghost use Rattle.peer_connections.specs.Tallied.{AreTallied};
 
 use crate::fed_rows::FedRows;
+use crate::tallied_rows::tally_stored;
 use journal::{Disk, StoredStation};
+use row_tally::RowTally;
 use site_base::{Event, FpNo, NoMemory, PointSet, Row};
 use site_book::{SiteBook, is_changing};
 use stamps::Stamp;
@@ -31,6 +34,8 @@ pub struct ChangeWatch {
     rows_fed: u64,
     /// What the feed's peers are told, if there is a feed.
     fed: Option<FedRows>,
+    /// What rows tell that their site doesn't, if that is wanted.
+    tally: Option<RowTally>,
 }
 
 impl ChangeWatch {
@@ -47,12 +52,14 @@ impl ChangeWatch {
             released: PointSet::new(),
             rows_fed: book.len(),
             fed: None,
+            tally: None,
         }
     }
 
     /// There is a feed: its peers are told these rows, and those that are stored from now on.
     pub fn begin_feed(&mut self, fed: FedRows)
         ensures fed { self.new.fed ≡ Some fed }
+        ensures tally { self.new.tally ≡ self.old.tally }
         ensures seen { self.new.rows_seen ≡ self.old.rows_seen }
         ensures read { self.new.rows_fed ≡ self.old.rows_fed }
         ensures changes { self.new.has_changes ≡ self.old.has_changes }
@@ -67,20 +74,43 @@ impl ChangeWatch {
         self.fed.as_ref()
     }
 
-    /// Each row is stored, and none that wasn't yet was forgotten: the feed, if there is one, reads
-    /// those, with the last time that the history tells. Where memory is wanting the feed ends.
+    /// There is a tally: of these rows, and of those that are stored from now on.
+    pub fn begin_tally(&mut self, tally: RowTally)
+        ensures tally { self.new.tally ≡ Some tally }
+        ensures fed { self.new.fed ≡ self.old.fed }
+        ensures seen { self.new.rows_seen ≡ self.old.rows_seen }
+        ensures read { self.new.rows_fed ≡ self.old.rows_fed }
+        ensures changes { self.new.has_changes ≡ self.old.has_changes }
+    {
+        self.tally = Some(tally);
+    }
+
+    /// The tally of the rows that are stored, if there is one.
+    pub fn tally(&self) -> Option<&RowTally>
+        ensures { option_copied result ≡ self.now.tally }
+    {
+        self.tally.as_ref()
+    }
+
+    /// Each row is stored, and none that wasn't yet was forgotten: the feed and the tally, if there
+    /// are any, read those, with the last time that the history tells. Where memory is wanting they
+    /// end.
     pub fn read_stored<D: Disk>(&mut self, stored: &StoredStation<D>)
         requires stored { is_all_stored stored.now ≡ true }
         requires fed { HasSeen self.old.rows_fed stored.now.station.book }
         ensures fed { AreRead (time_of stored.now.journal)
             (kept_behind self.old.rows_fed stored.now.station.book.rows) self.old.fed
             self.new.fed }
+        ensures tally { AreTallied (time_of stored.now.journal)
+            (kept_behind self.old.rows_fed stored.now.station.book.rows) self.old.tally
+            self.new.tally }
         ensures all { self.new.rows_fed ≡ length stored.now.station.book.rows }
         ensures seen { self.new.rows_seen ≡ self.old.rows_seen }
         ensures changes { self.new.has_changes ≡ self.old.has_changes }
     {
         let first = self.rows_fed;
         self.rows_fed = stored.book().len();
+        tally_stored(&mut self.tally, stored.book(), first, &stored.last_time());
         let Some(fed) = &mut self.fed else {
             return;
         };

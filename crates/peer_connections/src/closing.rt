@@ -1,13 +1,13 @@
 //! Connections that close, since their sessions have ended.
 
-ghost use Rattle.std.specs.Prelude.{◌≡◌, Some, false, true};
+ghost use Rattle.std.specs.Prelude.{◌≡◌, [], None, Some, false, get_or, true};
 ghost use Rattle.station.specs.Moves.{without_peer};
-ghost use Rattle.station.specs.Reads.{end_at};
+ghost use Rattle.station.specs.Reads.{end_at, owed_at};
 ghost use Rattle.journal.specs.Stored.{with_station};
 ghost use Rattle.peer_connections.specs.Allowed.{IsClosing, lasts_at};
 ghost use Rattle.peer_connections.specs.Links.{OthersStay, has_link};
 ghost use Rattle.peer_connections.specs.Reaches.{ReachesBy};
-ghost use Rattle.peer_connections.specs.Sending.{IsLetGo, IsSentTo};
+ghost use Rattle.peer_connections.specs.Sending.{IsLetGo, IsSentTo, WorksAt};
 ghost use Rattle.peer_connections.specs.Streams.{StaysKnownAt};
 
 use crate::connections::Connections;
@@ -28,6 +28,8 @@ impl<D: Disk, S: PeerSocket> Connections<D, S> {
         ensures others { OthersStay key self.old.links.items self.new.links.items }
         ensures sent { IsSentTo key self.old.stored self.old.links.items
             → IsSentTo key self.new.stored self.new.links.items }
+        ensures works { WorksAt (get_or self.old.links.items key None)
+            → WorksAt (get_or self.new.links.items key None) }
         ensures got { StaysKnownAt S.contents key self.old.links.items self.new.links.items }
         ensures changes { self.new.changes ≡ self.old.changes }
         ensures due { self.new.due ≡ self.old.due }
@@ -54,6 +56,8 @@ impl<D: Disk, S: PeerSocket> Connections<D, S> {
         ensures others { OthersStay key self.old.links.items self.new.links.items }
         ensures sent { IsSentTo key self.old.stored self.old.links.items
             → IsSentTo key self.new.stored self.new.links.items }
+        ensures works { WorksAt (get_or self.old.links.items key None)
+            → WorksAt (get_or self.new.links.items key None) }
         ensures unread { StaysKnownAt S.remaining key self.old.links.items self.new.links.items }
         ensures got { StaysKnownAt S.contents key self.old.links.items self.new.links.items }
         ensures changes { self.new.changes ≡ self.old.changes }
@@ -82,6 +86,8 @@ impl<D: Disk, S: PeerSocket> Connections<D, S> {
         ensures others { OthersStay key self.old.links.items self.new.links.items }
         ensures sent { IsSentTo key self.old.stored self.old.links.items
             → IsSentTo key self.new.stored self.new.links.items }
+        ensures works { WorksAt (get_or self.old.links.items key None)
+            → WorksAt (get_or self.new.links.items key None) }
         ensures journal { self.new.stored.journal ≡ self.old.stored.journal }
         ensures let_go { IsLetGo key self.old.stored.station self.old.links.items
             self.new.links.items }
@@ -103,14 +109,18 @@ impl<D: Disk, S: PeerSocket> Connections<D, S> {
         }
     }
 
-    /// A peer is told that nothing more will come. Can it only take, or nothing at all?
+    /// A peer that was sent all is told that nothing more will come. Can it only take, or nothing at
+    /// all?
     #[tactic(auto, using(crate::proofs::Sent::sent_to, crate::proofs::Known::known))]
     fn shut(&mut self, key: usize) -> bool
-        requires { lasts_at self.old.stored.station key ≡ false }
+        requires ended { lasts_at self.old.stored.station key ≡ false }
+        requires sent { owed_at self.old.stored.station key ≡ [] }
         ensures stored { self.new.stored ≡ self.old.stored }
         ensures others { OthersStay key self.old.links.items self.new.links.items }
         ensures sent { IsSentTo key self.old.stored self.old.links.items
             → IsSentTo key self.new.stored self.new.links.items }
+        ensures works { WorksAt (get_or self.old.links.items key None)
+            → WorksAt (get_or self.new.links.items key None) }
         ensures got { StaysKnownAt S.contents key self.old.links.items self.new.links.items }
         ensures changes { self.new.changes ≡ self.old.changes }
         ensures due { self.new.due ≡ self.old.due }

@@ -6,6 +6,7 @@ ghost use Rattle.chapters.specs.RowText.{kept_behind};
 ghost use Rattle.site_book.specs.Unpaid.{unpaid_sales};
 ghost use Rattle.station.specs.declared.sizes.TheConstants.{HEARD_OCTETS};
 ghost use Rattle.station.specs.Runs.{opening_station};
+ghost use Rattle.journal.specs.Disks.{OfFile};
 ghost use Rattle.journal.specs.Stored.{JournalGoesOn, is_all_stored, since_of, time_of};
 ghost use Rattle.peer_connections.specs.Fed.{AreRead};
 ghost use Rattle.peer_connections.specs.Links.{ArePaired, has_link};
@@ -19,6 +20,7 @@ use crate::peer_stream::PeerSocket;
 use crate::shift_warning::warn_of_last_shifts;
 use crate::upkeep::{Patience, Upkeep};
 use journal::{ChapterEnd, Disk, DiskFault, StoredStation};
+use row_tally::RowTally;
 use site_base::NoMemory;
 use site_book::{NamedSale, SiteBook};
 use stamps::Stamp;
@@ -116,6 +118,7 @@ impl<D: Disk, S: PeerSocket> Connections<D, S> {
     #[tactic(auto, using(crate::proofs::Pairing::paired))]
     pub fn begin_feed(&mut self, fed: FedRows)
         ensures fed { self.new.changes.fed ≡ Some fed }
+        ensures tally { self.new.changes.tally ≡ self.old.changes.tally }
         ensures stored { self.new.stored ≡ self.old.stored }
         ensures links { self.new.links ≡ self.old.links }
         ensures due { self.new.due ≡ self.old.due }
@@ -128,6 +131,26 @@ impl<D: Disk, S: PeerSocket> Connections<D, S> {
         ensures { option_copied result ≡ self.now.changes.fed }
     {
         self.changes.fed()
+    }
+
+    /// There is a tally: of these rows, those of the station's history so far, and of each that is
+    /// stored from now on.
+    #[tactic(auto, using(crate::proofs::Pairing::paired))]
+    pub fn begin_tally(&mut self, tally: RowTally)
+        ensures tally { self.new.changes.tally ≡ Some tally }
+        ensures fed { self.new.changes.fed ≡ self.old.changes.fed }
+        ensures stored { self.new.stored ≡ self.old.stored }
+        ensures links { self.new.links ≡ self.old.links }
+        ensures due { self.new.due ≡ self.old.due }
+    {
+        self.changes.begin_tally(tally);
+    }
+
+    /// The tally of the rows that are stored, if there is one.
+    pub fn tally(&self) -> Option<&RowTally>
+        ensures { option_copied result ≡ self.now.changes.tally }
+    {
+        self.changes.tally()
     }
 
     /// Looks up which transactions of the station are unpaid.
@@ -172,9 +195,23 @@ impl<D: Disk, S: PeerSocket> Connections<D, S> {
         self.stored.last_seal()
     }
 
+    /// When the round began that ended with the last seal, as `StoredStation::sealed_at` says.
+    pub fn sealed_at(&self) -> Option<Instant> {
+        self.stored.sealed_at()
+    }
+
+    /// How many chapters of the history are closed, as `StoredStation::closed_chapters` says.
+    pub fn closed_chapters(&self) -> Option<u64>
+        ensures count { IfSome result (λ count. IfSome self.now.stored.journal
+            (λ j. OfFile (λ f. count ≡ length f.closed) j.file)) }
+        ensures there { is_some result ≡ is_some self.now.stored.journal }
+    {
+        self.stored.closed_chapters()
+    }
+
     /// Stores each row that isn't stored yet: its peers may be told then.
     #[tactic(auto, using(crate::proofs::Reaching::moved, crate::proofs::Pairing::paired, crate::proofs::Seeing::kept))]
-    pub(crate) fn store(&mut self) -> Result<(), DiskFault>
+    pub fn store(&mut self) -> Result<(), DiskFault>
         ensures journal { JournalGoesOn self.old.stored.journal self.new.stored.journal }
         ensures station { self.new.stored.station ≡ self.old.stored.station }
         ensures stored { OnOk result (is_all_stored self.new.stored ≡ true) }

@@ -29,6 +29,7 @@ mod session_over;
 mod sessions;
 mod shift_warning;
 mod sizes;
+mod tallied_rows;
 mod upkeep;
 
 pub use connections::Connections;

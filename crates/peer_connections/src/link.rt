@@ -1,7 +1,9 @@
 //! A peer's connection.
 
-ghost use Rattle.std.specs.Prelude.{◌≡◌, ◌⊎◌, [], false, length};
+ghost use Rattle.std.specs.Prelude.{◌≡◌, ◌≢◌, ◌⊎◌, [], false, length, true};
 ghost use Rattle.station.specs.declared.sizes.TheConstants.{HEARD_OCTETS};
+ghost use Rattle.station.specs.Reads.{owed_at};
+ghost use Rattle.peer_connections.specs.declared.link.Channel.{Channel};
 ghost use Rattle.peer_connections.specs.Allowed.{lasts_at};
 ghost use Rattle.journal.specs.Stored.{told_at};
 ghost use Rattle.peer_connections.specs.Sending.{HasSeen, HasStopped, KeepsChanges};
@@ -12,7 +14,7 @@ use crate::calls::{read_ignored, read_with_room, write_once};
 use crate::change_watch::ChangeWatch;
 use crate::held_back::after;
 use crate::peer_stream::PeerSocket;
-use crate::session_over::SessionOver;
+use crate::session_over::{AllSent, SessionOver};
 use crate::sizes::{FIRST_HOLD_MILLISECONDS, HOLD_MILLISECONDS};
 use connection_calls::{CALLS_A_TURN, Call};
 use journal::{Disk, DiskFault, StoredStation};
@@ -91,6 +93,17 @@ impl<S> Link<S> {
         self.taken_at = now;
         if self.closing_since.is_some() {
             self.closing_since = Some(now);
+        }
+    }
+
+    /// Has the connection failed?
+    pub(crate) fn has_failed(&self) -> bool
+        ensures failed { result ≡ true → self.now.channel ≡ Channel.Failed }
+        ensures works { result ≡ false → self.now.channel ≢ Channel.Failed }
+    {
+        match self.channel {
+            Channel::Failed => true,
+            Channel::Open | Channel::HalfClosed => false,
         }
     }
 
@@ -234,18 +247,20 @@ impl<S: Write> Link<S> {
 }
 
 impl<S: PeerSocket> Link<S> {
-    /// Tells the peer, once, that nothing more will come: its session has ended.
+    /// Tells the peer, once, that nothing more will come: its session has ended, and it was sent
+    /// all.
     pub(crate) fn shut<D: Disk>(&mut self, stored: &StoredStation<D>, key: usize)
         requires ended { lasts_at stored.now.station key ≡ false }
+        requires sent { owed_at stored.now.station key ≡ [] }
         ensures stream { self.new.stream ≡ self.old.stream }
         ensures full { self.new.is_full ≡ self.old.is_full }
         ensures unsent { self.new.is_unsent ≡ self.old.is_unsent }
         ensures channel { self.new.channel ≡ self.old.channel }
     {
-        let over = SessionOver::of(stored, key);
+        let sent = AllSent::of(stored, key);
         if !self.is_shut {
             self.is_shut = true;
-            self.stream.shut(over);
+            self.stream.shut(sent);
         }
     }
 }

@@ -2,7 +2,7 @@
 
 ghost use Rattle.std.specs.Prelude.{◌≡◌};
 
-use crate::session_over::SessionOver;
+use crate::session_over::AllSent;
 use connection_calls::both_ways;
 use mio::net::{TcpStream, UnixStream};
 use mio::{Interest, Registry, Token};
@@ -26,8 +26,8 @@ pub trait PeerSocket: Read + Write + Drop {
         ensures left { Self.remaining self.new ≡ Self.remaining self.old }
         ensures got { Self.contents self.new ≡ Self.contents self.old };
 
-    /// Tells the peer that nothing more will come: its session is over.
-    fn shut(&self, over: SessionOver);
+    /// Tells the peer that nothing more will come: its session is over, and it was sent all.
+    fn shut(&self, sent: AllSent);
 }
 
 /// A connection over TCP, or one of a door, over a Unix socket.
@@ -61,7 +61,7 @@ impl PeerSocket for PeerStream {
         };
     }
 
-    fn shut(&self, _over: SessionOver) {
+    fn shut(&self, _sent: AllSent) {
         let _ = match self {
             PeerStream::Tcp(stream) => stream.shutdown(Shutdown::Write),
             PeerStream::Unix(stream) => stream.shutdown(Shutdown::Write),

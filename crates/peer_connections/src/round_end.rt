@@ -1,8 +1,7 @@
 //! The end of a round: its rows are stored, and whoever is due is sent what it is owed.
 
 ghost use Rattle.std.specs.Prelude.{◌≡◌, ◌<◌, ◌≤◌, ◌+◌, ℕ, [], length, List, None, OnOk, Option};
-ghost use Rattle.std.specs.Prelude.{Some, get_or, take, true};
-ghost use Rattle.peer_connections.specs.declared.link.Channel.{Channel};
+ghost use Rattle.std.specs.Prelude.{false, get_or, take, true};
 ghost use Rattle.peer_connections.specs.declared.link.Link.{Link};
 ghost use Rattle.station.specs.Reads.{owed_at};
 ghost use Rattle.journal.specs.Stored.{is_all_stored, told_at};
@@ -10,12 +9,11 @@ ghost use Rattle.peer_connections.specs.Allowed.{IsClosing, IsFollowing, IsSendi
 ghost use Rattle.peer_connections.specs.Links.{OthersStay, has_link};
 ghost use Rattle.peer_connections.specs.Reaches.{ReachesBy};
 ghost use Rattle.peer_connections.specs.Sending.{AreSentTo, FailsAt, IsLetGo, IsSentTo};
-ghost use Rattle.peer_connections.specs.Sending.{KeepsChanges};
+ghost use Rattle.peer_connections.specs.Sending.{KeepsChanges, WorksAt};
 ghost use Rattle.peer_connections.specs.Streams.{AllContinue, AllGetMore, SendsAndFollows};
 ghost use Rattle.peer_connections.specs.Streams.{SendsStream, StaysKnownAt, known_at};
 
 use crate::connections::Connections;
-use crate::link::Channel;
 use crate::peer_stream::PeerSocket;
 use journal::{Disk, DiskFault};
 use mio::Registry;
@@ -37,7 +35,8 @@ impl<D: Disk, S: PeerSocket> Connections<D, S> {
         ensures moves { ReachesBy IsFollowing self.old.stored self.new.stored }
         ensures stored { OnOk result (is_all_stored self.new.stored ≡ true) }
         ensures due { OnOk result (self.new.due ≡ []) }
-        ensures got { AllGetMore S.contents self.old.links.items self.new.links.items }
+        ensures got { AllGetMore S.contents self.old.links.items self.new.links.items
+            self.old.stored.station self.new.stored.station }
         ensures noted { KeepsChanges self.old.changes self.new.changes
             self.new.stored.station.book }
         ensures sent { OnOk result (length self.new.stored.station.book.rows
@@ -64,7 +63,8 @@ impl<D: Disk, S: PeerSocket> Connections<D, S> {
             ≤ length self.new.stored.station.book.rows }
         ensures changes { self.new.changes ≡ self.old.changes }
         ensures due { self.new.due ≡ [] }
-        ensures got { AllGetMore S.contents self.old.links.items self.new.links.items }
+        ensures got { AllGetMore S.contents self.old.links.items self.new.links.items
+            self.old.stored.station self.new.stored.station }
         ensures sent { length self.new.stored.station.book.rows
             ≡ length self.old.stored.station.book.rows
             → AreSentTo self.old.due self.new.stored self.new.links.items }
@@ -89,7 +89,8 @@ impl<D: Disk, S: PeerSocket> Connections<D, S> {
             ≤ length self.new.stored.station.book.rows }
         ensures changes { self.new.changes ≡ self.old.changes }
         ensures due { self.new.due ≡ self.old.due }
-        ensures got { AllGetMore S.contents self.old.links.items self.new.links.items }
+        ensures got { AllGetMore S.contents self.old.links.items self.new.links.items
+            self.old.stored.station self.new.stored.station }
         ensures sent { length self.new.stored.station.book.rows
             ≡ length self.old.stored.station.book.rows
             → AreSentTo (take at self.old.due) self.old.stored self.old.links.items
@@ -118,41 +119,37 @@ impl<D: Disk, S: PeerSocket> Connections<D, S> {
         ensures changes { self.new.changes ≡ self.old.changes }
         ensures due { self.new.due ≡ self.old.due }
     {
-        match self.send_link(key, now) {
-            None => {}
-            Some(Channel::Failed) => {
-                self.stored.finish(key);
-                self.begin_to_close(rt, key, now);
-                self.remove(key);
-            }
-            Some(_) => {
-                self.follow_session(rt, key, now);
-                self.report_again(registry, key);
-            }
+        if self.send_link(key, now) {
+            self.stored.finish(key);
+            self.begin_to_close(rt, key, now);
+            self.remove(key);
+        } else {
+            self.follow_session(rt, key, now);
+            self.report_again(registry, key);
         }
     }
 
-    /// A peer is sent what it may be told. What it can still do then, if it has a connection.
+    /// A peer is sent what it may be told. Has its connection failed?
     #[tactic(auto, using(crate::proofs::Streaming::sent, crate::proofs::Sent::sent_to, crate::proofs::Known::known))]
-    fn send_link(&mut self, key: usize, now: Instant) -> Option<Channel>
+    pub(crate) fn send_link(&mut self, key: usize, now: Instant) -> bool
         ensures moves { ReachesBy (IsSending key) self.old.stored self.new.stored }
         ensures stream { SendsStream key (known_at S.contents self.old.links.items key)
             (known_at S.contents self.new.links.items key) self.old.stored self.new.stored }
         ensures others { OthersStay key self.old.links.items self.new.links.items }
         ensures sent { IsSentTo key self.new.stored self.new.links.items }
         ensures journal { self.new.stored.journal ≡ self.old.stored.journal }
-        ensures failed { result ≡ Some Channel.Failed
-            → FailsAt (get_or self.new.links.items key None) }
+        ensures failed { result ≡ true → FailsAt (get_or self.new.links.items key None) }
+        ensures works { result ≡ false → WorksAt (get_or self.new.links.items key None) }
         ensures changes { self.new.changes ≡ self.old.changes }
         ensures due { self.new.due ≡ self.old.due }
     {
         if let Some(slot) = self.links.get_mut(key) {
             if let Some(link) = slot {
                 link.send(&mut self.stored, key, now);
-                return Some(link.channel);
+                return link.has_failed();
             }
         }
-        None
+        false
     }
 
     /// A peer's connection closes, if its session has ended.
@@ -162,6 +159,8 @@ impl<D: Disk, S: PeerSocket> Connections<D, S> {
         ensures others { OthersStay key self.old.links.items self.new.links.items }
         ensures sent { IsSentTo key self.old.stored self.old.links.items
             → IsSentTo key self.new.stored self.new.links.items }
+        ensures works { WorksAt (get_or self.old.links.items key None)
+            → WorksAt (get_or self.new.links.items key None) }
         ensures journal { self.new.stored.journal ≡ self.old.stored.journal }
         ensures let_go { IsLetGo key self.old.stored.station self.old.links.items
             self.new.links.items }
@@ -185,6 +184,8 @@ impl<D: Disk, S: PeerSocket> Connections<D, S> {
         ensures others { OthersStay key self.old.links.items self.new.links.items }
         ensures sent { IsSentTo key self.old.stored self.old.links.items
             → IsSentTo key self.new.stored self.new.links.items }
+        ensures works { WorksAt (get_or self.old.links.items key None)
+            → WorksAt (get_or self.new.links.items key None) }
         ensures got { StaysKnownAt S.contents key self.old.links.items self.new.links.items }
         ensures changes { self.new.changes ≡ self.old.changes }
         ensures due { self.new.due ≡ self.old.due }

@@ -1,12 +1,13 @@
-//! That a session is over: who closes a connection has to know it.
+//! That a session is over, and that its peer was sent all: who closes a connection has to know it.
 
-ghost use Rattle.std.specs.Prelude.{◌≡◌, false};
+ghost use Rattle.std.specs.Prelude.{◌≡◌, [], false};
+ghost use Rattle.station.specs.Reads.{owed_at};
 ghost use Rattle.peer_connections.specs.Allowed.{lasts_at};
 
 use journal::{Disk, StoredStation};
 
-/// The session of a peer is over: its connection may be told that nothing more will come, and what
-/// it still brings may be read, though nobody hears it.
+/// The session of a peer is over: what its connection still brings may be read, though nobody
+/// hears it.
 #[derive(Clone, Copy, Debug)]
 pub struct SessionOver(());
 
@@ -18,5 +19,22 @@ impl SessionOver {
         // How it ended makes no difference.
         let _ = stored.end(key);
         SessionOver(())
+    }
+}
+
+/// The session of a peer is over, and it was sent all that it was owed: its connection may be told
+/// that nothing more will come.
+#[derive(Clone, Copy, Debug)]
+pub struct AllSent(());
+
+impl AllSent {
+    /// To this key's peer.
+    pub(crate) fn of<D: Disk>(stored: &StoredStation<D>, key: usize) -> AllSent
+        requires over { lasts_at stored.now.station key ≡ false }
+        requires sent { owed_at stored.now.station key ≡ [] }
+    {
+        // How it ended makes no difference.
+        let _ = stored.end(key);
+        AllSent(())
     }
 }

@@ -4,7 +4,7 @@ ghost use Rattle.std.specs.Prelude.{◌≡◌, ◌<◌, IfSome, None, OnOk, Some
 ghost use Rattle.station.specs.declared.sizes.TheConstants.{PEERS};
 ghost use Rattle.station.specs.Reads.{HasNoPeer};
 ghost use Rattle.feed_connections.specs.Served.{AreServed};
-ghost use Rattle.journal.specs.Stored.{is_all_stored};
+ghost use Rattle.journal.specs.Stored.{JournalGoesOn, is_all_stored};
 ghost use Rattle.peer_connections.specs.Allowed.{IsDismissal, IsFollowing, IsHeard, IsHearing};
 ghost use Rattle.peer_connections.specs.Allowed.{IsWelcome};
 ghost use Rattle.peer_connections.specs.Due.{StayDue, is_due};
@@ -19,7 +19,7 @@ use crate::listeners::{
     add_feed_port, listen_for_page, listen_for_peers,
 };
 use crate::round_clock::RoundClock;
-use crate::sessions::list_sessions;
+use crate::sessions::{count_all, list_sessions};
 use crate::sizes::{EVENTS_A_ROUND, ROUNDS_BEFORE_A_SWEEP, SWEEP_SECONDS};
 use connection_calls::{ACCEPTS_A_TURN, Caller};
 use feed_connections::Feeds;
@@ -29,6 +29,7 @@ use mio::net::{TcpListener, TcpStream, UnixStream};
 use mio::{Events, Interest, Poll, Token, Waker};
 use page_connections::Pages;
 use peer_connections::{Connections, PeerStream};
+use site_metrics::StoreTimes;
 use stamps::StampClock;
 use station::PEERS;
 use std::alloc::Global;
@@ -69,6 +70,8 @@ pub struct StationServer {
     /// The day's end has come.
     has_ended: bool,
     swept_at: Instant,
+    /// How long rows took to be stored.
+    stores: StoreTimes,
     rounds: RoundClock,
     clock: StampClock,
 }
@@ -176,6 +179,7 @@ impl StationServer {
         let served = self.serve_rounds(threads, rt, connections, idle);
         let ended = connections.end_all(rt, self.rounds.waited());
         if ended.is_ok() {
+            self.note_last_round();
             self.serve_feed(rt, connections);
         }
         served?;
@@ -287,11 +291,12 @@ impl StationServer {
                     registry,
                     book,
                     connections.unpaid(),
-                    connections.count(),
+                    count_all(connections, &self.feeds, &self.rounds, self.stores),
                     &sessions,
                     self.clock.read(self.alloc, rt),
                     connections.open_since(),
                     connections.last_seal(),
+                    connections.tally(),
                     self.rounds.waited(),
                 ),
                 _ => pages.close_due(),
@@ -322,14 +327,30 @@ impl StationServer {
         }
     }
 
+    /// No further round comes: the feed's peers are fed what is left.
+    fn note_last_round(&mut self) {
+        if let Some(feeds) = &mut self.feeds {
+            feeds.note_last_round();
+        }
+    }
+
+    /// How long new rows wait still until the feed's peers are fed them, if there are some.
+    fn feed_left<D: Disk>(&self, connections: &Connections<D, PeerStream>) -> Option<Duration> {
+        let feeds = self.feeds.as_ref()?;
+        let fed = connections.fed_rows()?;
+        feeds.time_left(fed.rows(), self.rounds.waited())
+    }
+
     /// How long it waits for the next round: as long as it takes, until the next sweep, or until
-    /// sessions that were held back are read on.
+    /// sessions that were held back are read on, or the feed's peers are fed.
     fn poll_timeout<D: Disk>(
         &self,
         connections: &Connections<D, PeerStream>,
         idle: Option<u64>,
     ) -> Option<Duration> {
-        if let Some(left) = connections.hold_left(self.rounds.waited()) {
+        let hold_left = connections.hold_left(self.rounds.waited());
+        let feed_left = self.feed_left(connections);
+        if let Some(left) = sooner(hold_left, feed_left) {
             return Some(left);
         }
         let is_page_busy = self.pages.as_ref().is_some_and(|pages| pages.is_busy());
@@ -597,9 +618,37 @@ impl StationServer {
         ensures moves { Reaches connections.old.stored connections.new.stored }
         ensures stored { OnOk result (is_all_stored connections.new.stored ≡ true) }
     {
+        self.store_rows(rt, connections)?;
         self.send_noted(rt, connections)?;
         self.sweep_if_due(rt, connections, idle)?;
         connections.read_on(self.poll.registry(), self.rounds.waited());
+        Ok(())
+    }
+
+    /// Stores the round's rows, if there are some, and notes how long that takes.
+    #[tactic(auto, using(crate::proofs::Rounds::moved, crate::proofs::Rounds::heard))]
+    fn store_rows<R: Clock, D: Disk>(
+        &mut self,
+        rt: &R,
+        connections: &mut Connections<D, PeerStream>,
+    ) -> Result<(), ServerFault>
+        ensures station { connections.new.stored.station ≡ connections.old.stored.station }
+        ensures journal { JournalGoesOn connections.old.stored.journal
+            connections.new.stored.journal }
+        ensures links { connections.new.links ≡ connections.old.links }
+        ensures due { connections.new.due ≡ connections.old.due }
+        ensures noted { KeepsChanges connections.old.changes connections.new.changes
+            connections.new.stored.station.book }
+    {
+        if connections.stored_book().is_some() {
+            return Ok(());
+        }
+        let began = Instant::now(rt);
+        connections.store()?;
+        if let (Ok(began), Ok(ended)) = (began, Instant::now(rt)) {
+            self.stores
+                .note(count_microseconds(ended.duration_since(began)));
+        }
         Ok(())
     }
 
@@ -646,7 +695,7 @@ impl StationServer {
 
     /// Sweeps, where it is time to.
     #[tactic(auto, using(crate::proofs::Rounds::moved))]
-    fn sweep_if_due<R: Eprint, D: Disk>(
+    fn sweep_if_due<R: Clock + Eprint, D: Disk>(
         &mut self,
         rt: &R,
         connections: &mut Connections<D, PeerStream>,
@@ -662,6 +711,7 @@ impl StationServer {
         self.swept_at = self.rounds.waited();
         self.accept_again(rt, connections);
         connections.sweep(rt, idle, self.rounds.waited())?;
+        self.store_rows(rt, connections)?;
         self.send_noted(rt, connections)
     }
 
@@ -777,7 +827,24 @@ fn listen<N: Net, C: Clock>(
         has_told: false,
         has_ended: false,
         swept_at: now,
+        stores: StoreTimes::new(),
         rounds: RoundClock::new(now),
         clock: StampClock::new(),
     })
+}
+
+/// The lesser of two times, where there are both.
+fn sooner(one: Option<Duration>, other: Option<Duration>) -> Option<Duration> {
+    match (one, other) {
+        (Some(one), Some(other)) if other < one => Some(other),
+        (None, other) => other,
+        (one, _) => one,
+    }
+}
+
+/// So many microseconds, as far as 64 bits count them.
+fn count_microseconds(time: Duration) -> u64 {
+    time.as_secs()
+        .saturating_mul(1_000_000)
+        .saturating_add(u64::from(time.subsec_micros()))
 }

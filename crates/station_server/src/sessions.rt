@@ -1,9 +1,14 @@
-//! The sessions that the page lists.
+//! The sessions that the page lists, and what it counts.
 
+ghost use Rattle.std.specs.Prelude.{◌≡◌};
+
+use crate::round_clock::RoundClock;
+use feed_connections::Feeds;
 use journal::Disk;
 use peer_connections::{Connections, PeerStream};
 use site_base::NoMemory;
 use site_json::PeerSession;
+use site_metrics::{StationCounts, StoreTimes};
 use station::PEERS;
 use std::alloc::Global;
 use std::time::Instant;
@@ -28,4 +33,25 @@ pub(crate) fn list_sessions<D: Disk>(
         }
     }
     Ok(sessions)
+}
+
+/// What a station counts: its connections, the peers of its feed, its chapters, how long ago a
+/// round ended with a seal, and how long rows took to be stored.
+pub(crate) fn count_all<D: Disk>(
+    connections: &Connections<D, PeerStream>,
+    feeds: &Option<Feeds>,
+    rounds: &RoundClock,
+    stores: StoreTimes,
+) -> StationCounts
+    ensures stores { result.stores ≡ stores }
+{
+    let closed = connections.closed_chapters();
+    let sealed = connections.sealed_at();
+    StationCounts {
+        connections: connections.count(),
+        feeds: feeds.as_ref().map_or(0, |feeds| feeds.count()),
+        chapters: closed.map(|closed| closed.saturating_add(1)),
+        seal_seconds: sealed.map(|at| rounds.now().duration_since(at).as_secs()),
+        stores,
+    }
 }

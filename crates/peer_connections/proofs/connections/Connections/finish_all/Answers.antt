@@ -4,9 +4,10 @@ use Rattle.peer_connections.proofs.Seeing.{seen_ended}
 use Rattle.peer_connections.proofs.connections.Connections.finish_all.Goals as goal
 
 pub loop-key-preserved : goal.loop-key-preserved
-loop-key-preserved g c =
-    reaches_then _ _ _ _ c.loop-key.invariant
-    (reaches_ended _ _ _ c.finish.ensures)
+loop-key-preserved g c = record {
+  moves = reaches_then _ _ _ _ c.loop-key.invariant.moves (reaches_ended _ _ _ c.finish.ensures);
+  links = c.loop-key.invariant.links;
+}
 
 pub invariant_of-self-clause-seen : goal.invariant_of-self-clause-seen
 invariant_of-self-clause-seen g c =

@@ -27,3 +27,4 @@ returns-in-Some-clause-streams g c = λ few links might.
 pub returns-in-Some-clause-got : goal.returns-in-Some-clause-got
 returns-in-Some-clause-got g c =
     more_followed _ c.in-Some.key _ _ _ _ c.send_owed.ensures.stream c.send_owed.ensures.others
+    c.send_owed.ensures.moves

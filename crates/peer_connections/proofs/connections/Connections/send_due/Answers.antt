@@ -50,11 +50,17 @@ returns-clause-streams g c =
     c.store_and_end.ensures.stored
 
 -- .. or got more than before, at least
+pub returns-in_err-store-clause-got : goal.returns-in_err-store-clause-got
+returns-in_err-store-clause-got g c =
+    more_same _ _ _ _ _ (ap (λ x. x.items) c.store.ensures.links) c.store.ensures.station
+
 pub returns-clause-got : goal.returns-clause-got
 returns-clause-got g c =
-    more_then _ _ _ _ (more_same _ _ _ (ap (λ x. x.items) c.store.ensures.links))
-    (more_then _ _ _ _ c.send_each.ensures.got
-    (more_same _ _ _ (ap (λ x. x.items) c.store_and_end.ensures.links)))
+    more_then _ _ _ _ _ _ _
+    (more_same _ _ _ _ _ (ap (λ x. x.items) c.store.ensures.links) c.store.ensures.station)
+    (more_then _ _ _ _ _ _ _ c.send_each.ensures.got
+    (more_same _ _ _ _ _ (ap (λ x. x.items) c.store_and_end.ensures.links)
+    c.store_and_end.ensures.station))
 
 -- .. and a row of which a dispenser is told is noted, or to be looked at
 pub returns-clause-noted : goal.returns-clause-noted

@@ -12,7 +12,7 @@ loop-at-preserved g c = record {
   rows = omega (arith, c.loop-at.invariant.rows, c.send_at.ensures.rows);
   due = c.send_at.ensures.due ∙ c.loop-at.invariant.due;
   changes = c.send_at.ensures.changes ∙ c.loop-at.invariant.changes;
-  got = more_then _ _ _ _ c.loop-at.invariant.got c.send_at.ensures.got;
+  got = more_then _ _ _ _ _ _ _ c.loop-at.invariant.got c.send_at.ensures.got;
   sent = λ few.
       c.send_at.ensures.sent
       (omega (arith, few, c.loop-at.invariant.rows, c.send_at.ensures.rows))

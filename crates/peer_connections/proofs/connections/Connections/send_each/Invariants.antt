@@ -13,7 +13,8 @@ invariant-loop-at g l = record {
   rows : length l.fn.self.stored.station.book.rows ≤ length l.self.stored.station.book.rows;
   due : l.self.due ≡ l.fn.self.due;
   changes : l.self.changes ≡ l.fn.self.changes;
-  got : AllGetMore g.S.Write.contents l.fn.self.links.items l.self.links.items;
+  got : AllGetMore g.S.Write.contents l.fn.self.links.items l.self.links.items
+      l.fn.self.stored.station l.self.stored.station;
   sent : length l.self.stored.station.book.rows ≡ length l.fn.self.stored.station.book.rows
       → AreSentTo (take l.at l.self.due) l.self.stored l.self.links.items;
   streams : length l.self.stored.station.book.rows ≡ length l.fn.self.stored.station.book.rows

@@ -1,9 +1,9 @@
-use Rattle.std.proofs.Common.{◌≡◌, Some, ap, inl, inr, refl, true, ◌∙◌}
+use Rattle.std.proofs.Common.{◌≡◌, ap, refl, true, ◌∙◌}
 use Rattle.journal.specs.Stored.{StoredState}
 use Rattle.peer_connections.specs.Allowed.{lasts_at}
 use Rattle.peer_connections.specs.Links.{has_link}
-use Rattle.peer_connections.proofs.Known.{gone_there, let_go_not, let_go_then, no_more_same}
-use Rattle.peer_connections.proofs.Known.{no_more_then, still_there, was_there}
+use Rattle.peer_connections.proofs.Known.{gone_there, no_more_then, still_there, was_there}
+use Rattle.peer_connections.proofs.Known.{works_gone}
 use Rattle.peer_connections.proofs.Linking.{others_then}
 use Rattle.peer_connections.proofs.Reaching.{finished_at, over_at, reaches_closing}
 use Rattle.peer_connections.proofs.Reaching.{reaches_finished}
@@ -16,13 +16,9 @@ use Rattle.peer_connections.proofs.connections.Connections.send_owed.Goals as go
 pub begin_to_close-requires : goal.begin_to_close-requires
 begin_to_close-requires g c = over_at c.args.key c.send_link.new.self.stored _ c.finish.ensures
 
--- it has no connection
-pub returns-in-None-clause-moves : goal.returns-in-None-clause-moves
-returns-in-None-clause-moves g c = reaches_closing _ _ _ c.send_link.ensures.moves
-
 -- its connection failed: its session has ended before it leaves
-pub returns-in-Some-Failed-clause-moves : goal.returns-in-Some-Failed-clause-moves
-returns-in-Some-Failed-clause-moves g c =
+pub returns-then-send_link-clause-moves : goal.returns-then-send_link-clause-moves
+returns-then-send_link-clause-moves g c =
     reaches_then _ _ _ _ (reaches_closing _ _ _ c.send_link.ensures.moves)
     (reaches_then _ _ _ _ (reaches_finished c.args.key _ _ c.finish.ensures)
     (reaches_then _ _ _ _ (reaches_same _ _ _ c.begin_to_close.ensures.stored)
@@ -32,9 +28,32 @@ returns-in-Some-Failed-clause-moves g c =
     ∙ finished_at c.args.key _)
     c.remove.ensures.left)))
 
+-- what was sent before its connection failed
+pub returns-then-send_link-clause-stream : goal.returns-then-send_link-clause-stream
+returns-then-send_link-clause-stream g c = record {
+  sent_to = c.send_link.new.self.stored;
+  between = c.send_link.new.self.links.items;
+  others = c.send_link.ensures.others;
+  sends = c.send_link.ensures.stream;
+  follows = reaches_then _ _ _ _ (reaches_finished c.args.key _ _ c.finish.ensures)
+      (reaches_then _ _ _ _ (reaches_same _ _ _ c.begin_to_close.ensures.stored)
+      (reaches_gone c.args.key _ _
+      (ap (λ (s : StoredState). lasts_at s.station c.args.key)
+      (c.begin_to_close.ensures.stored ∙ c.finish.ensures)
+      ∙ finished_at c.args.key _)
+      c.remove.ensures.left));
+  no_more = λ there. absurd (gone_there c.args.key c.begin_to_close.new.self.stored.station _ _
+      c.remove.new.self.paired (ap (λ (s : StoredState). s.station) c.remove.ensures.left) there);
+  there = λ there. absurd (gone_there c.args.key c.begin_to_close.new.self.stored.station _ _
+      c.remove.new.self.paired (ap (λ (s : StoredState). s.station) c.remove.ensures.left) there);
+  stays = λ there. absurd (gone_there c.args.key c.begin_to_close.new.self.stored.station _ _
+      c.remove.new.self.paired (ap (λ (s : StoredState). s.station) c.remove.ensures.left) there);
+  works = works_gone c.args.key _ c.remove.ensures.gone;
+}
+
 -- .. else it follows its session
-pub returns-in-Some : goal.returns-in-Some
-returns-in-Some g c =
+pub returns-else-send_link : goal.returns-else-send_link
+returns-else-send_link g c =
     let same = ap (λ (s : StoredState). s.station) c.report_again.ensures.stored in
     let was : has_link c.report_again.new.self.links.items c.args.key ≡ true
     → has_link c.follow_session.new.self.links.items c.args.key ≡ true =
@@ -59,10 +78,8 @@ returns-in-Some g c =
             (ap (λ (s : StoredState). s.station) (c.follow_session.ensures.stays (was is)))
             (was is));
         stays = λ is. c.report_again.ensures.stored ∙ c.follow_session.ensures.stays (was is);
-        let_go = inr (let_go_then c.args.key c.send_link.new.self.stored.station
-            c.follow_session.new.self.stored.station c.report_again.new.self.stored.station _ _ _
-            c.follow_session.new.self.paired c.report_again.new.self.paired same
-            c.follow_session.ensures.let_go);
+        works = c.report_again.ensures.works
+            (c.follow_session.ensures.works (c.send_link.ensures.works c.if-send_link.false));
       };
       moves = reaches_then _ _ _ _ (reaches_closing _ _ _ c.send_link.ensures.moves)
           (reaches_then _ _ _ _ c.follow_session.ensures.moves
@@ -76,46 +93,6 @@ returns-in-Some g c =
           ∙ c.send_link.ensures.changes;
       due = c.report_again.ensures.due ∙ c.follow_session.ensures.due ∙ c.send_link.ensures.due;
     }
-
--- what was sent before its connection failed
-pub returns-in-Some-Failed-clause-stream : goal.returns-in-Some-Failed-clause-stream
-returns-in-Some-Failed-clause-stream g c = record {
-  sent_to = c.send_link.new.self.stored;
-  between = c.send_link.new.self.links.items;
-  others = c.send_link.ensures.others;
-  sends = c.send_link.ensures.stream;
-  follows = reaches_then _ _ _ _ (reaches_finished c.args.key _ _ c.finish.ensures)
-      (reaches_then _ _ _ _ (reaches_same _ _ _ c.begin_to_close.ensures.stored)
-      (reaches_gone c.args.key _ _
-      (ap (λ (s : StoredState). lasts_at s.station c.args.key)
-      (c.begin_to_close.ensures.stored ∙ c.finish.ensures)
-      ∙ finished_at c.args.key _)
-      c.remove.ensures.left));
-  no_more = λ there. absurd (gone_there c.args.key c.begin_to_close.new.self.stored.station _ _
-      c.remove.new.self.paired (ap (λ (s : StoredState). s.station) c.remove.ensures.left) there);
-  there = λ there. absurd (gone_there c.args.key c.begin_to_close.new.self.stored.station _ _
-      c.remove.new.self.paired (ap (λ (s : StoredState). s.station) c.remove.ensures.left) there);
-  stays = λ there. absurd (gone_there c.args.key c.begin_to_close.new.self.stored.station _ _
-      c.remove.new.self.paired (ap (λ (s : StoredState). s.station) c.remove.ensures.left) there);
-  let_go = inl (c.send_link.ensures.failed (c.in-Some-Failed.is ∙ ap Some c.in-Some-Failed.field-0-is));
-}
-
--- nobody is there
-pub returns-in-None-clause-stream : goal.returns-in-None-clause-stream
-returns-in-None-clause-stream g c = record {
-  sent_to = c.send_link.new.self.stored;
-  between = c.send_link.new.self.links.items;
-  others = c.send_link.ensures.others;
-  sends = c.send_link.ensures.stream;
-  follows = reaches_same _ _ _ refl;
-  no_more = no_more_same g.S.Write.contents c.args.key c.send_link.new.self.links.items
-      c.send_link.new.self.links.items refl;
-  there = was_there c.args.key _ _ _ _ c.args.self.now.stored _ c.args.self.now.paired
-      c.send_link.new.self.paired c.send_link.ensures.stream;
-  stays = λ is. refl;
-  let_go = inr (let_go_not c.args.key c.send_link.new.self.stored.station _ _ _
-      c.send_link.new.self.paired c.send_link.new.self.paired refl);
-}
 
 pub invariant_of-self-clause-seen : goal.invariant_of-self-clause-seen
 invariant_of-self-clause-seen g c =

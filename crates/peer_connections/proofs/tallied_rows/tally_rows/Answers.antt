@@ -1,0 +1,33 @@
+use Rattle.std.proofs.Common.{arith, ◌≡◌, ◌∙◌, ◌<◌, Some, length, sym}
+use Rattle.std.specs.Prelude.{slice_get}
+use Rattle.chapters.proofs.Rows.{there_is}
+use Rattle.peer_connections.proofs.Tallying.{tallied_begun, tallied_more}
+use Rattle.peer_connections.proofs.tallied_rows.tally_rows.Goals as goal
+
+pub loop-place-init : goal.loop-place-init
+loop-place-init c = record {
+  high = omega arith;
+  rows = tallied_begun c.args.time.now c.args.book.now.rows c.args.first c.args.tally.now;
+}
+
+pub unreachable-requires : goal.unreachable-requires
+unreachable-requires c =
+    there_is c.args.book.now.rows c.loop-place.place
+    (omega (arith, c.loop-place-test.true, c.len-place-end.ensures.rows))
+    (sym (c.row.ensures.kept (omega (arith, c.requires.each, c.loop-place.invariant.high)))
+    ∙ c.in_default.is)
+
+pub loop-place-preserved : goal.loop-place-preserved
+loop-place-preserved c =
+    let there : slice_get c.args.book.now.rows c.loop-place.place ≡ Some c.in-Some.row =
+    sym (c.row.ensures.kept (omega (arith, c.requires.each, c.loop-place.invariant.high)))
+    ∙ c.in-Some.is in
+    let within : c.loop-place.place < length c.args.book.now.rows =
+    omega (arith, c.loop-place-test.true, c.len-place-end.ensures.rows) in
+    record {
+      high = omega (arith, c.loop-place.invariant.high);
+      rows = tallied_more c.args.time.now c.args.book.now.rows c.args.first c.loop-place.place
+          c.in-Some.row c.args.tally.now c.loop-place.tally c.tally_row.new.tally
+          c.loop-place.invariant.high within there c.loop-place.invariant.rows
+          c.in_ok-tally_row.ensures;
+    }
