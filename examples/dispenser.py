@@ -7,7 +7,7 @@ its fuelling point is released, nozzle 1 is lifted, whose meter stands at the re
 site says; it flows a litre at a time until the millilitres are out or the preset is reached, waits
 while it is suspended, stops where a till ends it, and hangs up. If the station is started again
 meanwhile, it connects again and goes on with what the site says of its point. What it is told is
-printed. It can be run as often as its point is released. docs/PROFILE.md has every identifier."""
+printed. It can be run as often as its point is released. docs/PROTOCOL.md has every identifier."""
 import sys
 import time
 

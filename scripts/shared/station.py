@@ -1,5 +1,5 @@
 """The messages of a station as octets, and its sites.
-docs/PROFILE.md has every number that is named here."""
+docs/PROTOCOL.md has every number that is named here."""
 
 import contextlib
 import socket
@@ -26,9 +26,9 @@ SIGN_ON, SIGN_OFF, CLOSE_SHIFT = 0x31, 0x32, 0x33
 OPEN, CLOSE, RELEASE, TERMINATE, SUSPEND, RESUME, ASSIGN, UNASSIGN = range(0x3C, 0x44)
 PREPAY, TEST_RELEASE = 0x44, 0x45
 LIFT, FLOW, HANG_UP = 0x62, 0x63, 0x64
-LOCK, CLEAR = 0x80, 0x82
+LOCK, UNLOCK, CLEAR = 0x80, 0x81, 0x82
 # Items.
-RESULT, OUTCOME, NOZZLE, READING = 0x01, 0x03, 0x70, 0x71
+RESULT, OUTCOME, MONEY, NOZZLE, READING = 0x01, 0x03, 0x51, 0x70, 0x71
 
 
 class Message(typing.NamedTuple):

@@ -17,7 +17,8 @@ from shared.checks import Counts, Failed, Skipped, count_each
 
 SUITES_FOLDER = pathlib.Path(__file__).resolve().parent
 ORDER = (  # as they run
-    "layers program server station history times shifts meters rows seals versions page package demos tables faults"
+    "layers documents program server station history times shifts meters rows seals versions page"
+    " package demos tables faults"
 ).split()
 TESTS, FOLDERS = [], []
 GREATEST_SEED = 10**9

@@ -1,6 +1,6 @@
 """`forecourt ask`: a station that runs is asked in words, over TCP and at a door, and its replies
-are printed in words. What is expected stands in PROFILE: Requests in words, Asking by hand, Ends of
-the program."""
+are printed in words. What is expected is in docs/PROGRAM.md: Requests in words, Asking by hand,
+Ends of the program."""
 
 import contextlib
 import socket

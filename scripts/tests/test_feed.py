@@ -1,4 +1,4 @@
-"""Rows as JSON: `forecourt replay FOLDER --json`. What is expected stands in PROFILE: Rows as JSON,
+"""Rows as JSON: `forecourt replay FOLDER --json`. What is expected is in docs/PAGE.md: Rows as JSON,
 and is worked out by hand from its tables."""
 
 import json

@@ -35,10 +35,10 @@ from shared.page_day import connect, end_day, read_answer, write_request
 from shared.running import EXAMPLES, SCRIPTS, compile_c, run
 from shared.serving import list_addresses, wait_until
 from shared.station import (
-    CLEAR, CLOSE, CLOSE_SHIFT, DISPENSER, FIVE_POINTS, FLOW, HANG_UP, KNOWN_SITE, LIFT, LOCK, OPEN,
-    RELEASE, REPORT, SITE, TILL, WRITE, address_point, ask_site, command_point, command_sale,
-    decode, encode, is_accepted, read_point, receive_all, receive_message, report, sign_on,
-    write_report,
+    CLEAR, CLOSE, CLOSE_SHIFT, DISPENSER, FIVE_POINTS, FLOW, HANG_UP, KNOWN_SITE, LIFT, LOCK, MONEY,
+    OPEN, PREPAY, RELEASE, REPORT, SITE, TEST_RELEASE, TILL, UNLOCK, WRITE, address_point, ask,
+    ask_site, command_point, command_sale, decode, encode, is_accepted, read_point, receive_all,
+    receive_message, report, sign_on, write_report,
 )  # fmt: skip
 from tests.built import PROGRAM
 from tests.suite import make_folder, test, test_beside
@@ -55,7 +55,6 @@ ONLINE = 0x60  # what a dispenser says that is there
 MOST_IN_BOOK = 1_024  # rows
 # Seconds after which a silent peer is left: 10 to 12, and one for a machine that is busy.
 LEFT_AFTER = (10, 13)
-SEAL_SHOWN = 12  # digits of the last seal that the page says
 SEALED_AFTER = 1.1  # seconds since the last seal, after which a row is sealed at once
 MILLISECOND = datetime.timedelta(milliseconds=1)
 READS = 2_000  # of a till, beside which the page is asked
@@ -131,8 +130,8 @@ def asks_nothing_of_others():
 
 
 # The members of site.json, and of what is in it.
-SITE_MEMBERS = ["at", "connections", "opened", "points", "products", "rows", "seal", "sessions",
-                "shift", "tills", "transactions", "unpaid cents"]  # fmt: skip
+SITE_MEMBERS = ["at", "connections", "gaps", "opened", "points", "products", "rows", "seal",
+                "sessions", "shift", "tills", "transactions", "unpaid cents"]  # fmt: skip
 POINT = ["dispenser connected", "fuelling", "holder", "nozzle", "nozzles", "number", "product",
          "state", "state name"]  # fmt: skip
 FUELLING = ["cents", "ending", "millilitres", "mills", "prepaid", "preset cents",
@@ -474,7 +473,7 @@ def only_what_is_stored():
     tells of it; where the flush fails neither is answered, and the day ends."""
     library = compile_c(HERE, "tests/faults.c", "-O1", "-shared", "-fPIC")
     met = 0
-    for sync in range(0, 9):
+    for sync in range(0, 16):
         folder = HERE / f"flush-{sync}"
         faults = {"LD_PRELOAD": library, "FAIL_SYNC": str(sync)}
         try:
@@ -630,6 +629,7 @@ def figures_for_programs():
             'witsomar_points{state="idle"}': 2,
             "witsomar_unpaid_transactions": 1, "witsomar_unpaid_cents": sale["cents"],
             "witsomar_shift": 1, "witsomar_shifts_left": 998,
+            "witsomar_open_gaps": 0, 'witsomar_refused_rows{refusal="1"}': 0,
         }  # fmt: skip
         for name, value in wanted.items():
             expect(name, found.get(name), value)
@@ -647,7 +647,47 @@ def read_samples(text):
     expect("its end", (lines[-1], text[-1]), ("# EOF", "\n"))
     pairs = [line.rsplit(" ", 1) for line in lines if not line.startswith("#")]
     expect("each once", len({name for name, _ in pairs}), len(pairs))
-    return {name: int(value) for name, value in pairs}
+    return {name: float(value) if "e" in value else int(value) for name, value in pairs}
+
+
+@test
+def figures_of_the_station():
+    """What `/metrics` has beside the book: the peers of the feed, the chapters, how old the last
+    seal is, how long rows took to be stored, and the version that the program says."""
+    version = run(PROGRAM, "--version").out.decode().split()[-1]
+    with start_page("--feed", "0", till=None) as page:
+        found = read_samples(page.get("/metrics")[2].decode())
+        expect("the version", found.get(f'witsomar_build_info{{version="{version}"}}'), 1)
+        expect("no history", [name for name in found if "chapters" in name or "seal" in name], [])
+        expect("nothing flushed", found["witsomar_flush_seconds_count"], 0)
+        expect("nobody fed", found["witsomar_feeds"], 0)
+        line = page.day.process.stdout.readline().decode()
+        with socket.create_connection(("127.0.0.1", int(line.rsplit(":", 1)[1]))):
+            wait_until("one is fed", lambda: read_figure(page, "witsomar_feeds") == 1)
+        wait_until("it has left", lambda: read_figure(page, "witsomar_feeds") == 0)
+    folder = HERE / "station_figures"
+    with start_page("--history", str(folder)) as page:
+        page.tell(command_point(1, 0, 1, OPEN))
+        found = read_samples(page.get("/metrics")[2].decode())
+        expect("one chapter", found["witsomar_chapters"], 1)
+        expect("sealed just now", found["witsomar_seal_age_seconds"] < 60, True)
+        count, taken = (found[f"witsomar_flush_seconds_{word}"] for word in ("count", "sum"))
+        expect("rows were flushed", count >= 1, True)
+        longest = found["witsomar_flush_seconds_max"]
+        expect("the longest", 0 < longest <= taken <= count * longest, True)
+        page.tell(ask_site(1, CLOSE_SHIFT))
+        wait_until("the next chapter", lambda: read_figure(page, "witsomar_chapters") == 2)
+        sealed = time.monotonic()
+        time.sleep(2.2)
+        age, most = read_figure(page, "witsomar_seal_age_seconds"), time.monotonic() - sealed + 1
+        expect("its age", 2 <= age <= most, True)
+        if shutil.which("promtool"):
+            checked = run("promtool", "check", "metrics", given=page.get("/metrics")[2])
+            expect("promtool", (checked.status, checked.err), (0, ""))
+
+
+def read_figure(page, name):
+    return read_samples(page.get("/metrics")[2].decode()).get(name)
 
 
 @test
@@ -750,6 +790,45 @@ def sales_whose_rows_are_forgotten():
     with start_page(*words, site=site, till=None) as page:
         again = page.site()
         expect("at a start", (again["transactions"], again["rows"]), ([first], rows))
+
+
+@test
+def open_gaps():
+    """`site.json` and `/metrics` tell readings that a meter refuses until one of the nozzle is
+    accepted: also once the book has forgotten their rows, and after a start; as `meters --gaps`."""
+    folder, site = HERE / "gaps", HERE / "gaps.toml"
+    site.write_text(f"rows = {MOST_IN_BOOK}\n{KNOWN_SITE.read_text()}")
+    words = ("--history", str(folder))
+    with start_page(*words, site=site) as page:
+        page.tell(command_point(1, 0, 1, OPEN), command_point(1, 0, 2, OPEN))
+        expect("none", read_gaps(page), ([], 0, 0))
+        page.tell(report(1, 0, LIFT, 30_000), report(1, 0, LIFT, 30_500), read_point(1, 0, 1))
+        gap = {"point": 1, "nozzle": 1, "expected": 0, "reported": 30_500, "refusal": 17, "row": 3,
+               "since": page.site()["gaps"][0]["since"]}  # fmt: skip
+        expect("its time", gap["since"] in told_times(folder), True)
+        expect("one", read_gaps(page), ([gap], 1, 2))
+        page.tell(report(2, 0, LIFT, 1_000, 2))
+        fill_book(page)
+        expect("of another nozzle none is settled", read_gaps(page), ([gap], 1, 2))
+    with start_page(*words, site=site, till=None) as page:
+        expect("after a start", read_gaps(page), ([gap], 1, 2))
+        table = run(PROGRAM, "meters", folder, "--gaps", "--json").out.decode().splitlines()
+        [open_run] = map(json.loads, table)
+        expect("as meters says", {name: open_run.get(name) for name in gap},
+               {**gap, "since": None})  # fmt: skip
+        expect("its time, too", open_run["at"], gap["since"])
+        expect("accepted", is_accepted(page.tell(report(1, 0, LIFT, 0))), True)
+        expect("settled", read_gaps(page), ([], 0, 2))
+    with start_page(*words, site=site, till=None) as page:
+        expect("after another start", read_gaps(page), ([], 0, 2))
+
+
+def read_gaps(page):
+    """The open gaps of `site.json`; how many `/metrics` has, and how many rows refused with 17."""
+    found = read_samples(page.get("/metrics")[2].decode())
+    refused = [found.get(f'witsomar_refused_rows{{refusal="{n}"}}') for n in range(1, 26)]
+    expect("each refusal", None in refused, False)
+    return page.site()["gaps"], found["witsomar_open_gaps"], refused[16]
 
 
 @test
@@ -884,50 +963,145 @@ def in_browser(function):
     return call
 
 
+HEAD = "[document.getElementById('state').textContent, document.title]"
+TILES = "document.querySelector('#points section') !== null"
+
+
+SALE_OF_SHIFT_1 = bytes.fromhex("21 22 0001 0001")  # the first of point 1 in it
+
+
+def expect_head(browser, wanted):
+    """The head and the title count what wants an act."""
+    wait_until(wanted, lambda: browser.evaluate(HEAD)[0] == wanted)
+    expect("title", browser.evaluate(HEAD), [wanted, wanted])
+
+
 @test
 @in_browser
 def a_day_at_a_point():
     """A point calls, is released, fuels, sells, is locked and cleared; the page says each step
-    within two seconds, and how many transactions are unpaid."""
+    within two seconds, and counts who calls and what is unpaid."""
     released = encode((SITE, 1), (TILL, 1), WRITE, 4, address_point(1),
-                      [(RELEASE, b""), (0x51, (2_000).to_bytes(4, "big"))])  # fmt: skip
+                      [(RELEASE, b""), (MONEY, (2_000).to_bytes(4, "big"))])  # fmt: skip
     with start_page() as page, start_browser() as browser:
         browser.open(page.url, *SCREEN)
-        wait_until("the page", lambda: browser.evaluate("document.querySelector('article')") != "")
+        wait_until("the page", lambda: browser.evaluate(TILES))
         expect_words(browser, 1, "1", "closed")
         page.tell(command_point(1, 2, 1, OPEN))
         expect_words(browser, 1, "idle")
         page.tell(report(1, 3, LIFT, 0))
-        expect_words(browser, 1, "calling", "1 diesel")
+        expect_words(browser, 1, "calling", "AGE", "1 diesel")
+        expect_head(browser, "1 calling, 0 unpaid")
         page.tell(released)
-        expect_words(browser, 1, "started", "for 20.00", "1 diesel", "till 1")
+        expect_words(browser, 1, "started", "for 20.00", "1 diesel", "held by till 1")
         page.tell(report(1, 3, FLOW, 4_000))
         expect_words(browser, 1, "fuelling", "4.00 l", "6.00")
         page.tell(report(1, 3, HANG_UP, 10_000))
-        expect_words(browser, 1, "idle", "1/1", "10.00", "15.00", "payable")
-        expect("title", browser.evaluate("document.title"), "(1) Forecourt")
+        expect_words(browser, 1, "idle", "1/1", "10.00 l", "15.00", "diesel", "payable AGE")
+        expect_head(browser, "0 calling, 1 unpaid 15.00")
         page.tell(command_sale(1, 5, 1, 1, LOCK))
-        expect_words(browser, 1, "1/1", "till 1")
-        page.tell(command_sale(1, 6, 1, 1, CLEAR))
-        wait_until("cleared", lambda: "1/1" not in read_tile(browser, 1))
-        expect("title", browser.evaluate("document.title"), "(0) Forecourt")
-        till = browser.evaluate("document.querySelector('#tills span').textContent")
-        expect("the till", till, "till 1 on, 1 for 15.00")
+        expect_words(browser, 1, "1/1", "till 1 is collecting")
+        page.tell(ask_site(1, CLOSE_SHIFT, 7))
+        expect_words(browser, 1, "1/1/1", "till 1 is collecting")
+        till = "document.querySelector('#tills span').textContent"
+        expect("the till", browser.evaluate(till), "till 1 on, 0 for 0.00")
+        page.tell(ask(1, WRITE, 6, SALE_OF_SHIFT_1, (CLEAR, b"")))
+        wait_until("cleared", lambda: "1/1/1" not in read_tile(browser, 1))
+        expect_head(browser, "0 calling, 0 unpaid")
+        expect("the till", browser.evaluate(till), "till 1 on, 1 for 15.00")
+        expect("complaints of the browser", browser.complaints, [])
+
+
+def prepay(point, cents, token=0):
+    """Till 1 prepays a point."""
+    return encode((SITE, 1), (TILL, 1), WRITE, token, address_point(point),
+                  [(PREPAY, b""), (MONEY, cents.to_bytes(4, "big"))])  # fmt: skip
+
+
+@test
+@in_browser
+def what_was_prepaid():
+    """Of a prepaid sale the page says what was prepaid, and what is due of it or goes back, not
+    what it costs; the head counts what is due alone. While it flows the page says what is left."""
+    with start_page() as page, start_browser() as browser:
+        browser.open(page.url, *SCREEN)
+        wait_until("the page", lambda: browser.evaluate(TILES))
+        page.tell(*(command_point(1, 0, point, OPEN) for point in (1, 2, 3)))
+        sold = ((1, 20_000, "nothing due"), (2, 22_000, "3.00 due"), (3, 18_000, "3.00 back"))
+        for point, volume, left in sold:
+            page.tell(prepay(point, 3_000))
+            expect_words(browser, point, "authorised", "30.00 prepaid", "held by till 1")
+            page.tell(report(point, 0, LIFT, 0), report(point, 0, FLOW, 8_000))
+            expect_words(browser, point, "12.00", "30.00 prepaid, 18.00 left")
+            page.tell(report(point, 0, HANG_UP, volume))
+            expect_words(browser, point, "30.00 prepaid,", left, "till 1 is collecting")
+        expect("it isn't said that it costs that", "30.00|" in read_tile(browser, 1), False)
+        expect_head(browser, "0 calling, 1 unpaid 3.00, 2 prepaid")
+        page.tell(*(command_sale(1, 0, point, 1, UNLOCK) for point in (1, 2, 3)))
+        for point, words in ((1, "to clear AGE"), (2, "payable AGE"), (3, "to clear AGE")):
+            expect_words(browser, point, words)
+        grounds = browser.evaluate(
+            "[...document.querySelectorAll('.due')].map(x => getComputedStyle(x).backgroundColor)"
+        )
+        expect("nothing due doesn't stand out", grounds[0], "rgba(0, 0, 0, 0)")
+        expect("the others do", grounds[1:], [grounds[1]] * 2)
+        expect("from it", grounds[0] == grounds[1], False)
         expect("complaints of the browser", browser.complaints, [])
 
 
 @test
 @in_browser
+def a_test_at_a_point():
+    """A test shows litres and `test`, no money."""
+    with start_page() as page, start_browser() as browser:
+        browser.open(page.url, *SCREEN)
+        wait_until("the page", lambda: browser.evaluate(TILES))
+        page.tell(command_point(1, 0, 1, OPEN), command_point(1, 0, 1, TEST_RELEASE))
+        expect_words(browser, 1, "authorised", "test")
+        page.tell(report(1, 0, LIFT, 0), report(1, 0, FLOW, 20_000))
+        expect_words(browser, 1, "fuelling", "20.00 l", "test", "1 diesel")
+        expect("money", re.findall(r"\d+\.\d\d(?! l)", read_tile(browser, 1)), [])
+
+
+@test
+@in_browser
+def how_long_it_calls():
+    """The page counts how long a point has been calling, as far as it saw it, and anew when it
+    calls again. How it writes ages and litres."""
+    said = "document.querySelector('.s4 .age')?.textContent ?? ''"
+    with start_page() as page, start_browser() as browser:
+        browser.open(page.url, *SCREEN)
+        wait_until("the page", lambda: browser.evaluate(TILES))
+        page.tell(command_point(1, 0, 1, OPEN), report(1, 0, LIFT, 0))
+        young, older = ("0:00", "0:01"), ("0:03", "0:04")  # an answer a second, or so
+        wait_until("it calls", lambda: browser.evaluate(said) in young)
+        begun = time.monotonic()
+        wait_until("it has called for a while", lambda: browser.evaluate(said) in older)
+        passed = time.monotonic() - begun
+        expect(f"{passed:.1f} seconds", 1.5 < passed < 4.5, True)
+        page.tell(report(1, 0, HANG_UP, 0))
+        expect_words(browser, 1, "idle")
+        page.tell(report(1, 0, LIFT, 0))
+        wait_until("it calls again", lambda: browser.evaluate(said) in young)
+        length = "[0, 59999, 60000, 3599999, 3600000, 90000000].map(length)"
+        expect("lengths", browser.evaluate(length),
+               ["0:00", "0:59", "1:00", "59:59", "1 h 0 m", "25 h 0 m"])  # fmt: skip
+        volumes = [4, 5, 17_054, 17_055, 17_065, 1_005, 999_999_999_999]
+        said = browser.evaluate(f"{volumes}.map(litres)")
+        expect("litres", said, [f"{round_litres(volume):.2f}" for volume in volumes])
+
+
+@test
+@in_browser
 def the_last_seal_on_the_page():
-    """The page says the first digits of the last seal, and its title all of them; without a history
-    it says nothing of seals."""
-    said = "[document.getElementById('seal').textContent, document.getElementById('seal').title]"
+    """The second view says the last seal; without a history it says nothing of seals."""
+    said = "document.getElementById('seal').innerText"
     for words in ([], ["--history", str(HERE / "sealed-page")]):
         with start_page(*words) as page, start_browser() as browser:
-            browser.open(page.url, *SCREEN)
-            expect_words(browser, 1, "closed")
-            seal = page.site()["seal"]
-            wanted = [f"last seal {seal[:SEAL_SHOWN]}", seal] if words else ["", ""]
+            browser.open(page.url + "#history", *SCREEN)
+            rows = "document.getElementById('rows')?.innerText"
+            wait_until("the rows", lambda: browser.evaluate(rows) == f"{page.site()['rows']} rows")
+            wanted = f"last seal {page.site()['seal']}" if words else ""
             expect("the seal", browser.evaluate(said), wanted)
             expect("complaints of the browser", browser.complaints, [])
 
@@ -936,8 +1110,8 @@ def the_last_seal_on_the_page():
 @in_browser
 def since_when_on_the_page():
     """The page says since when the shift is open, in the time of the day here, of another day with
-    its date; the title has the whole time. Without a history it says nothing of it."""
-    said = "['textContent', 'title'].map(one => document.getElementById('shift')?.[one] ?? '')"
+    its date. Without a history it says nothing of it."""
+    said = "['shift', 'since'].map(one => document.getElementById(one)?.textContent ?? '')"
     old = HERE / "since-page"
     times = ["2026-01-02T03:04:05.678Z", make_stamp(datetime.datetime.now(datetime.UTC))]
     for opened in (None, *times):
@@ -949,10 +1123,28 @@ def since_when_on_the_page():
         with start_page(*words, till=None) as page, start_browser() as browser:
             browser.open(page.url, *SCREEN)
             wait_until("the shift", lambda: browser.evaluate(said)[0] != "")
-            got = browser.evaluate(said)
-            expect("the title", got[1], opened or "")
-            expect("the shift", got[0], "shift 1" + (f" since {tell_moment(opened)}" if opened else ""))
+            words = ["shift 1", "Shift 1"]
+            if opened:
+                since = f"since {tell_moment(opened)}"
+                words = [f"shift 1 {since}", f"Shift 1, open {since}"]
+            expect("the shift", browser.evaluate(said), words)
             expect("complaints of the browser", browser.complaints, [])
+
+
+@test
+@in_browser
+def what_time_it_is():
+    """The page has the station's time and day, in the time of the day here."""
+    said = "['clock', 'date'].map(one => document.getElementById(one).textContent)"
+    with start_page() as page, start_browser() as browser:
+        browser.open(page.url, *SCREEN)
+        wait_until("the page", lambda: browser.evaluate(TILES))
+        before = datetime.datetime.now() - datetime.timedelta(seconds=SOON)
+        clock, day = browser.evaluate(said)
+        after = datetime.datetime.now()
+        told = datetime.datetime.strptime(f"{day.replace(',', '')} {clock}", "%a %d %b %Y %H:%M:%S")
+        if not before.replace(microsecond=0) <= told <= after:
+            raise Failed(f"{day} {clock} isn't between {before} and {after}")
 
 
 def make_stamp(time):
@@ -966,34 +1158,65 @@ def tell_moment(stamp):
     return moment.strftime("%H:%M" if is_today else "%Y-%m-%d %H:%M")
 
 
+LOST_TILE = """[...document.querySelectorAll('#points section')].map(tile => {
+    const struck = ['.state', '.limit', '.who'].map(one => tile.querySelector(one))
+        .filter(one => one.getClientRects().length)
+        .map(one => getComputedStyle(one).textDecorationLine);
+    const grey = colour => Math.max(...colour) - Math.min(...colour);
+    const numbers = text => text.match(/[\\d.]+/g).map(Number).slice(0, 3);
+    const line = getComputedStyle(tile, '::before').backgroundImage;
+    const texts = [...tile.querySelectorAll('h2,span,p')].filter(x => x.getClientRects().length);
+    const colours = [getComputedStyle(tile).backgroundColor,
+        ...texts.map(x => getComputedStyle(x).color)];
+    const last = tile.querySelector('.last');
+    return {struck: [...new Set(struck)],
+        time: last.getClientRects().length ? last.textContent : '',
+        hue: Math.max(...colours.map(numbers).map(grey)),
+        line: line.startsWith('linear-gradient')};
+})"""
+MOST_HUE = 24  # of 255, between the channels of what is called grey
+
+
 @test_beside
 @in_browser
 def a_silent_station():
-    """The page says since when there is no answer, and goes on once there is one."""
+    """Where no answer comes the page says since when, in the title too; its tiles are grey and
+    struck through, with the time of the last answer. It goes on once there is an answer."""
     with start_page() as page, start_browser() as browser:
         browser.open(page.url, *SCREEN)
-        expect_words(browser, 1, "closed")
+        page.tell(command_point(1, 0, 1, OPEN), report(1, 0, LIFT, 0))
+        expect_words(browser, 1, "calling")
+        live = browser.evaluate(LOST_TILE)
+        expect("live", [x["line"] or x["time"] or x["struck"] != ["none"] for x in live],
+               [False] * len(live))  # fmt: skip
         page.day.process.send_signal(signal.SIGSTOP)
         try:
             time.sleep(SILENCE)
-            said = browser.evaluate("document.getElementById('state').textContent")
+            said, title = browser.evaluate(HEAD)
             if not re.fullmatch(r"no answer since \d\d:\d\d:\d\d", said):
                 raise Failed(f"the page says '{said}'")
+            expect("the title", title, said)
+            last = said.removeprefix("no answer since ")
+            for tile in browser.evaluate(LOST_TILE):
+                expect("a tile", (tile["struck"], tile["time"], tile["line"]),
+                       (["line-through"], last, True))  # fmt: skip
+                expect("grey", tile["hue"] <= MOST_HUE, True)
+            expect("it is heard", browser.evaluate(NEWS), said)
         finally:
             page.day.process.send_signal(signal.SIGCONT)
         time.sleep(SILENCE)
-        said = browser.evaluate("document.getElementById('state').textContent")
-        expect("again", said, "0 unpaid")
+        expect_head(browser, "1 calling, 0 unpaid")
+        expect("live again", browser.evaluate("document.body.className"), "")
 
 
-SESSIONS = "[...document.querySelectorAll('#sessions p')].map(line => line.textContent)"
+SESSIONS = "[...document.querySelectorAll('#sessions tr')].map(line => line.innerText)"
 
 
 @test_beside
 @in_browser
 def who_is_connected_on_the_page():
-    """A tile says that its dispenser isn't connected, until it is; a click on the connections opens
-    the list of sessions."""
+    """A tile says that its dispenser isn't connected, until it is; the second view has the
+    sessions, how many connections there are, and each meter."""
     with start_page() as page, start_browser() as browser:
         browser.open(page.url, *SCREEN)
         expect_words(browser, 2, "closed", "no dispenser")
@@ -1001,18 +1224,103 @@ def who_is_connected_on_the_page():
             come_online(pump, 2)
             wait_until("the tile says no more", lambda: "no dispenser" not in read_tile(browser, 2))
             expect_words(browser, 1, "no dispenser")
-            expect("closed", browser.evaluate("document.getElementById('who').open"), False)
-            browser.evaluate("document.getElementById('peers').click()")
-            lines = browser.evaluate(SESSIONS)
-            wanted = [rf"{name} since \d\d:\d\d, heard \d+ s ago" for name in ("till 1", "dispenser 2")]
-            matched = [bool(re.fullmatch(*pair)) for pair in zip(wanted, lines, strict=True)]
-            expect("sessions", (lines, matched), (lines, [True, True]))
-            high = browser.evaluate("document.getElementById('sessions').offsetHeight")
-            expect("they are seen", high > 0, True)
+            browser.evaluate("document.getElementById('to-figures').click()")
+            wait_until("two sessions", lambda: len(browser.evaluate(SESSIONS)) == 2)
+            lines = [line.split("\t") for line in browser.evaluate(SESSIONS)]
+            expect("whose", [line[0] for line in lines], ["till 1", "dispenser 2"])
+            heard = [re.fullmatch(r"\d+ s ago", line[2]) is not None for line in lines]
+            expect("when", heard, [True, True])
+            count = browser.evaluate("document.getElementById('peers').innerText")
+            expect("connections", count, "2 connections")
+            meters = browser.evaluate("document.getElementById('meters').rows.length")
+            nozzles = [nozzle for point in page.site()["points"] for nozzle in point["nozzles"]]
+            expect("meters", meters, len(nozzles))
+            browser.evaluate("document.getElementById('to-points').click()")
+            wait_until("pumps again", lambda: browser.evaluate(SEEN) == ["points", "foot"])
         expect_words(browser, 2, "no dispenser")
 
 
-RECTANGLES = """[...document.querySelectorAll('article')].map(tile => {
+@test_beside
+@in_browser
+def open_gaps_on_the_page():
+    """A tile says of an open gap what its nozzle's meter reads, and what was reported last, until a
+    reading is accepted."""
+    with start_page() as page, start_browser() as browser:
+        page.tell(command_point(1, 0, 1, OPEN), report(1, 0, LIFT, 30_500))
+        browser.open(page.url, *SCREEN)
+        expect_words(browser, 1, "nozzle 1: 0.00 l expected, 30.50 reported")
+        page.tell(report(1, 0, LIFT, 40_000))
+        expect_words(browser, 1, "nozzle 1: 0.00 l expected, 40.00 reported")
+        page.tell(report(1, 0, LIFT, 0))
+        wait_until("the gap is settled", lambda: "expected" not in read_tile(browser, 1))
+
+
+SEEN = """Object.entries({points: '#points', figures: '#figures', foot: 'footer'})
+    .filter(([name, one]) => document.querySelector(one).getClientRects().length)
+    .map(([name]) => name)"""
+NEWS = "document.getElementById('news').textContent"
+
+
+@test
+@in_browser
+def heard_and_by_keyboard():
+    """A screen reader finds each pump as a region with a heading, hears changes politely, and
+    nothing else that changes; both views and the parts are opened by the keyboard alone."""
+    with start_page() as page, start_browser() as browser:
+        browser.open(page.url, *SCREEN)
+        wait_until("the page", lambda: browser.evaluate(TILES))
+        found = read_roles(browser)
+        points = [f"Pump {point['number']}" for point in page.site()["points"]]
+        expect("regions", [name for role, name in found if role == "region"], points)
+        heads = [name for role, name in found if role == "heading"]
+        names = [product["name"] for product in page.site()["products"]]
+        expect("headings", heads, ["Forecourt", *points, *names])
+        for role, name in (("main", "pumps"), ("navigation", "views"), ("group", "products"),
+                           ("group", "tills"), ("link", "pumps"), ("link", "figures")):  # fmt: skip
+            expect(f"{role} {name}", (role, name) in found, True)
+        live = "[...document.querySelectorAll('[aria-live],[role=status]')].map(x => x.id)"
+        expect("what is told", browser.evaluate(live), ["news"])
+        how = "document.getElementById('news').getAttribute('aria-live')"
+        expect("politely", browser.evaluate(how), "polite")
+        expect("nothing at first", browser.evaluate(NEWS), "")
+        page.tell(command_point(1, 0, 1, OPEN), report(1, 0, LIFT, 0))
+        wait_until("the news", lambda: browser.evaluate(NEWS) == "Pump 1 calling")
+        press(browser, "Tab", "Tab")
+        expect("the link", browser.evaluate("document.activeElement.id"), "to-figures")
+        press(browser, "Enter")
+        wait_until("the second view", lambda: browser.evaluate(SEEN) == ["figures"])
+        expect("of the address", browser.evaluate("location.hash"), "#history")
+        current = "document.querySelector('[aria-current=page]').id"
+        expect("which view", browser.evaluate(current), "to-figures")
+        browser.evaluate("document.getElementById('to-points').focus()")
+        press(browser, "Enter")
+        wait_until("the first view", lambda: browser.evaluate(SEEN) == ["points", "foot"])
+        press(browser, "Tab", "Tab", "Enter")
+        wait_until("the parts", lambda: browser.evaluate("document.getElementById('more').open"))
+        shown = browser.evaluate("document.getElementById('shares').getClientRects().length")
+        expect("they are seen", shown > 0, True)
+        expect("complaints of the browser", browser.complaints, [])
+
+
+def read_roles(browser):
+    """The roles and names of the accessibility tree, in the order of the page."""
+    nodes = browser.call("Accessibility.getFullAXTree")["nodes"]
+    return [(node["role"]["value"], node.get("name", {}).get("value", "")) for node in nodes
+            if not node["ignored"]]  # fmt: skip
+
+
+KEYS = {"Tab": (9, ""), "Enter": (13, "\r")}
+
+
+def press(browser, *keys):
+    for key in keys:
+        code, text = KEYS[key]
+        pressed = {"key": key, "code": key, "windowsVirtualKeyCode": code}
+        browser.call("Input.dispatchKeyEvent", type="keyDown", text=text, **pressed)
+        browser.call("Input.dispatchKeyEvent", type="keyUp", **pressed)
+
+
+RECTANGLES = """[...document.querySelectorAll('#points section')].map(tile => {
     const box = tile.getBoundingClientRect();
     return [box.left, box.top, box.right, box.bottom];
 })"""
@@ -1044,16 +1352,36 @@ def expect_column(browser, size):
     expect("no scrolling sideways", width <= size[0], True)
 
 
-def expect_legible(browser, may_end_early):
+CAPITALS = """(() => {
+    const pen = document.createElement('canvas').getContext('2d');
+    const measure = node => {
+        const style = getComputedStyle(node);
+        pen.font = style.fontWeight + ' 1000px ' + style.fontFamily;
+        return pen.measureText('H').actualBoundingBoxAscent * parseFloat(style.fontSize) / 1000;
+    };
+    const seen = [...document.querySelectorAll('SELECTOR')]
+        .filter(node => node.getClientRects().length && node.textContent);
+    return Math.min(...seen.map(measure));
+})()"""
+
+
+def measure_capitals(browser, selector):
+    """The height of the smallest capitals of these texts, in pixels."""
+    return browser.evaluate(CAPITALS.replace("SELECTOR", selector))
+
+
+def expect_legible(browser, may_end_early=frozenset()):
     """No text is cut off, and each is strong enough, where no answer comes, too. Of a text whose
-    element has one of these classes an ellipsis may be the end, at points above PLAIN alone."""
-    for prepared in ("", f"{LOST}, "):
+    element has one of these classes an ellipsis may be the end, at points above PLAIN alone; where
+    no answer comes, that of a state, which makes room for the time."""
+    for prepared, more in (("", set()), (f"{LOST}, ", {"state"})):
         found = browser.evaluate(f"{prepared}{LOOKS}")
         expect("cut off", found["cut"], [])
         expect("faint", found["faint"], [])
-        early = [x for x in found["short"] if x[0] not in may_end_early]
+        early = [x for x in found["short"] if x[0] not in {*may_end_early, *more}]
         expect("ends early", early, [])
-        plain = [x for x in found["short"] if 0 < x[1] <= forecourts.PLAIN and x[0] != "out"]
+        plain = [x for x in found["short"]
+                 if 0 < x[1] <= forecourts.PLAIN and x[0] not in ("out", *more)]  # fmt: skip
         expect("ends early, though it isn't long", plain, [])
 
 
@@ -1062,21 +1390,22 @@ def expect_legible(browser, may_end_early):
 def sixty_four_points():
     """64 points in every state, with as many unpaid transactions as they may have: on a screen all
     stand within the window; on a telephone one below another; whatever the window is no text is
-    cut off or faint. A volume and a product's name end early first, and that shows."""
+    cut off or faint. What is out and a product's name end early first, and that shows."""
     with start_busy(forecourts.make_crowded_day()) as (page, _), start_browser() as browser:
         expect("states", {x["state"] for x in page.site()["points"]}, set(range(1, 10)))
         for dark in (False, True):
             open_page(browser, page, SCREEN, dark, 64)
             expect_one_screen(browser, 64, SCREEN)
-            expect_legible(browser, {"flowed", "out", "name"})
+            expect_legible(browser, {"out", "product"})
             open_page(browser, page, TELEPHONE, dark, 64)
             expect_column(browser, TELEPHONE)
-            expect_legible(browser, set())
+            expect_legible(browser)
         open_page(browser, page, WIDE, False, 64)
         expect_one_screen(browser, 64, WIDE)
-        expect_legible(browser, {"out"})
+        expect_legible(browser, {"out", "product"})
+        expect("capitals", measure_capitals(browser, ".sum") >= 7, True)
         open_page(browser, page, ASIDE, False, 64)
-        expect_legible(browser, {"flowed", "out", "name"})
+        expect_legible(browser)
         expect_each_tile(browser, page)
         expect("complaints of the browser", browser.complaints, [])
 
@@ -1084,62 +1413,125 @@ def sixty_four_points():
 @test
 @in_browser
 def twelve_points():
-    """A busy day at twelve points: nothing ends early."""
+    """A busy day at twelve points: nothing ends early; on a large screen money, litres and states
+    can be read from two metres."""
     with start_busy(forecourts.make_busy_day()) as (page, _), start_browser() as browser:
         for size in (SCREEN, WIDE, ASIDE, TELEPHONE):
             open_page(browser, page, size, False, 12)
-            expect_legible(browser, set())
+            expect_legible(browser)
+        open_page(browser, page, WIDE, False, 12)
+        expect_one_screen(browser, 12, WIDE)
+        for selector, least in (("#points .flowed", 30), ("#points .sum", 30), (".state", 22)):
+            high = measure_capitals(browser, selector)
+            expect(f"{selector}: {high:.1f} pixels", high >= least, True)
         open_page(browser, page, SCREEN, False, 12)
         expect_one_screen(browser, 12, SCREEN)
         expect_each_tile(browser, page)
         expect("complaints of the browser", browser.complaints, [])
 
 
+@test
+@in_browser
+def fewer_points_with_long_figures():
+    """Five and twelve points with the longest names and the greatest figures, and twenty with the
+    most lines: nothing is cut off or faint, and nothing is scrolled on a screen. With five and
+    twelve nothing ends early."""
+    for numbers, may_end_early in ((range(60, 65), ()), (range(53, 65), ()),
+                                   (range(17, 37), ("out", "product"))):  # fmt: skip
+        made, last, count = forecourts.make_crowded_day(numbers=numbers), numbers[-1], len(numbers)
+        with start_busy(made) as (page, _), start_browser() as browser:
+            for size, dark in ((WIDE, False), (SCREEN, True), (TELEPHONE, False), (ASIDE, True)):
+                open_page(browser, page, size, dark, last)
+                if size in (WIDE, SCREEN):
+                    expect_one_screen(browser, count, size)
+                expect_legible(browser, may_end_early)
+            expect_each_tile(browser, page)
+            browser.evaluate("location.hash = 'history'")
+            for size in (WIDE, SCREEN, TELEPHONE):
+                browser.resize(*size)
+                expect_legible(browser)
+                count_wide = """[...document.querySelectorAll('#figures section')]
+                    .filter(one => one.scrollWidth > one.clientWidth).length"""
+                wide = browser.evaluate(count_wide)
+                expect("sections scrolled sideways", wide <= (1 if size == TELEPHONE else 0), True)
+            expect("complaints of the browser", browser.complaints, [])
+
+
 def expect_each_tile(browser, page):
     """Each tile says what `site.json` has of its point, and the footer what it has of products and
     tills."""
+    is_lost = "document.body.classList.contains('lost')"
+    wait_until("an answer", lambda: not browser.evaluate(is_lost))
     site = page.site()
     names = {one["number"]: one["name"] for one in site["products"]}
     for point in site["points"]:
         sales = [x for x in site["transactions"] if x["point"] == point["number"]]
         said = read_tile(browser, point["number"])
-        expect(f"point {point['number']}", said, "|".join(write_tile(point, names, sales)))
+        wanted = write_tile(point, names, sales, site["shift"])
+        expect(f"point {point['number']}", said, "|".join(wanted))
     texts = "[...document.querySelectorAll('{0}')].map(x => x.textContent)"
     prices = browser.evaluate(texts.format("#products .price"))
     expect("prices", prices, [f"{x['mills'] / 1_000:.3f}" for x in site["products"]])
-    parts = [x.split() for x in browser.evaluate(texts.format("#products .parts span"))]
-    wanted = [(what, x[what]) for x in site["products"] for what in
-              ("cleared", "payable", "locked", "running", "adjusted")]  # fmt: skip
-    expect("names of parts", [name for name, _ in parts], [name for name, _ in wanted])
-    far = [x for x, (_, ml) in zip(parts, wanted) if abs(float(x[1]) * 1_000 - ml) > 50.1]
-    expect("parts, to a tenth of a litre", far, [])
+    metered = browser.evaluate(texts.format("#products .flowed"))
+    wanted = [f"{space(round_litres(x['metered']), 2)} l" for x in site["products"]]
+    expect("metered", metered, wanted)
+    parts = ("running", "payable", "locked", "cleared", "adjusted", "metered")
+    for table in ("#shares", "#parts"):
+        cells = browser.evaluate(texts.format(f"{table} td"))
+        lines = [[f"{x['number']} {x['name']}", *(space(x[part] / 1_000, 3) for part in parts)]
+                 for x in site["products"]]  # fmt: skip
+        expect(table, cells, [cell for line in lines for cell in line])
     tills = browser.evaluate(texts.format("#tills span"))
     expect("tills", tills, [
         f"till {x['number']} {'on' if x['signed on'] else 'off'}, {x['clears']} for"
-        f" {x['cents'] / 100:.2f}" for x in site["tills"] if x["signed on"] or x["clears"]
+        f" {space(x['cents'] / 100, 2)}" for x in site["tills"] if x["signed on"] or x["clears"]
     ])  # fmt: skip
 
 
-def write_tile(point, names, sales):
+def round_litres(millilitres):
+    """Litres with two digits; half a hundredth is rounded up."""
+    return (millilitres + 5) // 10 / 100
+
+
+def space(number, digits):
+    """A number whose thousands are apart."""
+    return f"{number:,.{digits}f}".replace(",", "\u00a0")
+
+
+def write_tile(point, names, sales, shift):
     """The words that a tile is to have."""
     fuelling = point["fuelling"]
-    words = [str(point["number"]), STATES[point["state"] - 1]]
-    if fuelling["prepaid"] is not None:
-        words.append(f"prepaid {fuelling['prepaid'] / 100:.2f}")
-    elif fuelling["preset cents"] is not None:
-        words.append(f"for {fuelling['preset cents'] / 100:.2f}")
-    elif fuelling["preset millilitres"] is not None:
-        words.append(f"for {fuelling['preset millilitres'] / 1_000:.2f} l")
-    marks = [mark for mark in ("test", "ending") if fuelling[mark]]
-    if point["nozzle"]:
-        marks.append(f"{point['nozzle']} {names[point['product']]}")
-    words += [", ".join(marks)] if marks else []
-    if fuelling["cents"] is not None:
-        words += [f"{fuelling['millilitres'] / 1_000:.2f} l", f"{fuelling['cents'] / 100:.2f}"]
-    if point["holder"]:
-        words.append(f"till {point['holder']}")
+    flows, words = fuelling["cents"] is not None, [str(point["number"]), STATES[point["state"] - 1]]
+    words += ["AGE"] if point["state"] == forecourts.CALLING else []
+    if flows:
+        words.append(f"{round_litres(fuelling['millilitres']):.2f} l")
+        words.append("test" if fuelling["test"] else f"{fuelling['cents'] / 100:.2f}")
+    limit = write_limit(fuelling)
+    marks = ["test"] if fuelling["test"] and not flows else []
+    marks += ["ending"] if fuelling["ending"] else []
+    marks += [f"{point['nozzle']} {names[point['product']]}"] if point["nozzle"] else []
+    words += [limit] if limit and marks else []
+    words += [", ".join(marks)] if marks else [limit] if limit else []
+    words += [f"held by till {point['holder']}"] if point["holder"] else []
     for sale in sales:
-        by = f"till {sale['till']}" if sale["status"] == "locked" else "payable"
-        words += [f"{sale['shift']}/{sale['number']}", f"{sale['millilitres'] / 1_000:.2f}",
-                  f"{sale['cents'] / 100:.2f}", by]  # fmt: skip
+        number = f"{sale['shift']}/" * (sale["shift"] != shift) + str(sale["number"])
+        locked = sale["status"] == "locked"
+        words += [f"{sale['point']}/{number}", f"{round_litres(sale['millilitres']):.2f} l",
+                  f"{sale['cents'] / 100:.2f}", names[sale["product"]],
+                  f"till {sale['till']} is collecting" if locked else "payable AGE"]  # fmt: skip
     return words
+
+
+def write_limit(fuelling):
+    """What a tile is to say of how much may flow."""
+    if fuelling["prepaid"] is not None:
+        words = f"{fuelling['prepaid'] / 100:.2f} prepaid"
+        if fuelling["cents"] is None:
+            return words
+        left = fuelling["prepaid"] - fuelling["cents"]
+        return f"{words}, {abs(left) / 100:.2f} {'over' if left < 0 else 'left'}"
+    if fuelling["preset cents"] is not None:
+        return f"for {fuelling['preset cents'] / 100:.2f}"
+    if fuelling["preset millilitres"] is not None:
+        return f"for {round_litres(fuelling['preset millilitres']):.2f} l"
+    return ""

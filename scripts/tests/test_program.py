@@ -2,7 +2,7 @@
 
 It is run on files of cases, on lines as long as can be, on devices that fail, with words on its
 command line that are right and wrong, with less memory than it wants, and on the examples. What it
-says of numbers is compared with docs/PROFILE.md."""
+says of numbers is compared with docs/PROTOCOL.md and docs/PROGRAM.md."""
 
 import collections
 import csv
@@ -283,7 +283,7 @@ FAULTS.update(zip(range(70, 77), """
 NotToml UnknownKey MissingKey WrongKind OutOfRange Repeated UnknownProduct
 """.split()))  # fmt: skip
 
-PROFILE = CRATES.parent / "docs/PROFILE.md"
+DOCUMENTS = [CRATES.parent / f"docs/{name}.md" for name in ("PROTOCOL", "PROGRAM")]
 REFUSALS_HEAD = "| No | Name (detail) | No | Name (detail) |"
 FAULTS_HEAD = "| No | Name of the fault | No | Name of the fault |"
 # A full book and a change of originator are answered, a state that doesn't come is a worker's.
@@ -311,12 +311,12 @@ def explained_numbers():
     expect_end("explain 1 to an output that takes nothing", end, 1, b"", "fault 62")
 
 
-def read_profile(*heads):
-    """The rows of the tables of PROFILE that begin with one of these lines, as cells."""
+def read_tables(head):
+    """The rows of the tables of PROTOCOL and PROGRAM that begin with this line, as cells."""
     rows, is_read = [], False
-    for line in PROFILE.read_text().splitlines():
-        is_read = line in heads or is_read and line.startswith("|")
-        if is_read and line not in heads and not line.startswith("|---"):
+    for line in (line for path in DOCUMENTS for line in path.read_text().splitlines()):
+        is_read = line == head or is_read and line.startswith("|")
+        if is_read and line != head and not line.startswith("|---"):
             rows.append([cell.strip() for cell in line.strip("|").split("|")])
     return rows
 
@@ -340,12 +340,12 @@ def explain_all():
 
 
 @test_each
-def numbers_of_the_profile():
-    """The tables of numbers in PROFILE have just the numbers that `explain` knows, with their
+def numbers_of_the_documents():
+    """The documents' tables of numbers have just the numbers that `explain` knows, with their
     names, and a detail where it says so."""
     drawn = {}
     for kind, head in (("refusal", REFUSALS_HEAD), ("fault", FAULTS_HEAD)):
-        cells = [cell for row in read_profile(head) for cell in row]
+        cells = [cell for row in read_tables(head) for cell in row]
         for number, name in zip(cells[::2], cells[1::2]):
             if number:
                 has_detail = name.endswith(")")
@@ -356,14 +356,15 @@ def numbers_of_the_profile():
 
 
 @test_each
-def faults_of_the_profile():
-    """PROFILE's tables of faults name faults that `explain` knows, each with its exit status where
-    it ends the program; a fault that isn't there is an answer, or ends a dispenser's own work."""
+def faults_of_the_documents():
+    """The documents' tables of faults name faults that `explain` knows, each with its exit status
+    where it ends the program; a fault that isn't there is an answer, or ends a dispenser's own
+    work."""
     kinds = {number: kind for number, (kind, _, _) in explain_all().items()}
-    answered = [int(row[0]) for row in read_profile("| No | Fault |")]
-    in_files = [n for row in read_profile("| Fault | When |") for n in find_numbers(row[0])]
+    answered = [int(row[0]) for row in read_tables("| No | Fault |")]
+    in_files = [n for row in read_tables("| Fault | When |") for n in find_numbers(row[0])]
     statuses = {}
-    for texts, status, *_ in read_profile("| Standard error | Status | When | Of |"):
+    for texts, status, *_ in read_tables("| Standard error | Status | When | Of |"):
         texts = texts.replace("unsettled 60", "fault 60")
         statuses.update((number, status) for number in find_numbers(texts))
     for number in (*answered, *in_files, *statuses):
@@ -714,7 +715,8 @@ def texts_of_a_site():
                 expect_end(f"{name} named {kind}", end, 0, plain.out)
         comment = f"# site {other}\n"
         end = forecourt(command, KNOWN_SITE, given=comment + rows)
-        expect_end(f"{command} of a comment like a history's line", end, 0, plain.out)
+        name = f"{command} of a history without its first line"
+        expect_end(name, end, 1, b"", "history of another site")
 
 
 def fold(path):

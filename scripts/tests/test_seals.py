@@ -1,7 +1,7 @@
 """Seals, times and stories of histories: `verify`, `explain --times` and `story` of a folder.
 
 The histories are written here, with seals that hashlib computes. Which fault a changed one has is
-judged here by what docs/PROFILE.md says of a chapter's text; a start has to refuse it with the same
+judged here by what docs/PROGRAM.md says of a chapter's text; a start has to refuse it with the same
 fault."""
 
 import re

@@ -6,7 +6,7 @@ ghost use Rattle.feed_connections.specs.Served.{AreServed, HaveCome};
 use crate::feed_link::FeedLink;
 use crate::feed_place::{FeedPlace, note_rows, pass_time, take_turn};
 use crate::feed_stream::{FeedListener, FeedStream};
-use crate::sizes::{FEED_SWEEP_SECONDS, FEEDS};
+use crate::sizes::{FEED_MILLISECONDS, FEED_SWEEP_SECONDS, FEEDS};
 use connection_calls::{ACCEPTS_A_TURN, Caller};
 use mio::Registry;
 use mio::net::{TcpListener, UnixListener};
@@ -14,7 +14,7 @@ use row_feed::ChapterStarts;
 use row_json::LastRows;
 use site_base::NoMemory;
 use std::alloc::Global;
-use std::time::Instant;
+use std::time::{Duration, Instant};
 
 /// A listener, and whether connections may wait there to be accepted.
 #[derive(Drop)]
@@ -35,6 +35,10 @@ pub struct Feeds {
     is_due: bool,
     /// This row was the next one when those that are fed were last told of rows.
     told: u64,
+    /// Before then they are told of no others.
+    waits_until: Instant,
+    /// No further round comes: rows don't wait for others.
+    is_last: bool,
     /// When it was last looked who is late, and who is to hear that the feed is alive.
     swept_at: Instant,
 }
@@ -53,6 +57,8 @@ impl Feeds {
             first_key,
             is_due: false,
             told: 0,
+            waits_until: now,
+            is_last: false,
             swept_at: now,
         })
     }
@@ -81,6 +87,24 @@ impl Feeds {
     /// Is there a peer, for which time passes, or one that waits to be accepted?
     pub fn is_busy(&self) -> bool {
         self.have_callers() || self.places.iter().any(|place| place.is_some())
+    }
+
+    /// How many peers there are.
+    pub fn count(&self) -> usize {
+        self.places.iter().filter(|place| place.is_some()).count()
+    }
+
+    /// How long new rows wait still until they are fed, if there are some, and a peer.
+    pub fn time_left(&self, rows: &LastRows, now: Instant) -> Option<Duration> {
+        if self.told == rows.next() || self.places.iter().all(|place| place.is_none()) {
+            return None;
+        }
+        Some(self.waits_until.duration_since(now))
+    }
+
+    /// No further round comes: the next time rows are fed at once.
+    pub fn note_last_round(&mut self) {
+        self.is_last = true;
     }
 
     /// May connections wait to be accepted?
@@ -117,7 +141,8 @@ impl Feeds {
     }
 
     /// Each link that is ready, or waits for rows where there are new ones, has its turn with these
-    /// last rows. Then those that wait are accepted. Once a second whoever is late is closed, and
+    /// last rows: for new ones at most every 50 milliseconds, whatever their number. Then those that
+    /// wait are accepted. Once a second whoever is late is closed, and
     /// whoever has waited for rows for ten seconds is told which is next.
     #[tactic(auto, using(crate::proofs::Serving::serving))]
     pub fn serve(
@@ -130,21 +155,25 @@ impl Feeds {
         ensures { AreServed rows.now self.old.places.items self.new.places.items }
     {
         self.sweep_if_due(rows, now);
-        self.note_rows(rows);
+        self.note_rows(rows, now);
         self.serve_due(registry, rows, starts, now);
         self.accept_waiting(registry, now);
         self.serve_due(registry, rows, starts, now);
     }
 
-    /// If there are new rows, whoever waits for them is due.
+    /// If there are new rows, and they have waited long enough for others, whoever waits for them
+    /// is due: so a peer has a turn for many rows, and not for each one.
     #[tactic(auto, using(crate::proofs::Serving::serving))]
-    fn note_rows(&mut self, rows: &LastRows)
+    fn note_rows(&mut self, rows: &LastRows, now: Instant)
         ensures { AreServed rows.now self.old.places.items self.new.places.items }
     {
-        if self.told == rows.next() {
+        if self.told == rows.next() || now < self.waits_until && !self.is_last {
             return;
         }
         self.told = rows.next();
+        self.waits_until = now
+            .checked_add(Duration::from_millis(FEED_MILLISECONDS))
+            .unwrap_or(now);
         for number in 0..self.places.len() {
             self.note_rows_at(rows, number);
         }

@@ -15,5 +15,9 @@ pub const HEARD_OCTETS: usize = 256;
 /// So many peers are fed at once, at most.
 pub const FEEDS: usize = 64;
 
+/// Those that wait for rows are fed new ones at most every so many milliseconds: each time costs a
+/// write for each of them, which the tills wait for.
+pub const FEED_MILLISECONDS: u64 = 50;
+
 /// So often it is looked who is late, and who is to hear that the feed is alive.
 pub const FEED_SWEEP_SECONDS: u64 = 1;

@@ -13,14 +13,14 @@ use Rattle.meters.specs.Nozzles.{reading_of}
 use Rattle.written_site.specs.SiteChecks.{first_refusal}
 use Rattle.written_site.specs.SiteState.{SiteState}
 use Rattle.written_site.proofs.SoundTables.{same}
-use Rattle.meter_table.specs.declared.gap.MeterReading.{MeterReading}
-use Rattle.meter_table.specs.declared.gap.RefusedRun.{RefusedRun}
-use Rattle.meter_table.specs.declared.gap.RowPlace.{RowPlace}
-use Rattle.meter_table.specs.Figures.{is_of_meter}
+use Rattle.row_tally.specs.Readings.{is_of_meter, reading_told}
+use Rattle.row_tally.specs.Runs.{is_of_nozzle, run_longer, run_settled, settled_run, with_refused}
+use Rattle.row_tally.specs.Runs.{without_run}
+use Rattle.row_tally.specs.declared.meter_reading.MeterReading.{MeterReading}
+use Rattle.row_tally.specs.declared.refused_run.RefusedRun.{RefusedRun}
+use Rattle.row_tally.specs.declared.refused_run.RowPlace.{RowPlace}
 use Rattle.meter_table.specs.Gaps.{Gaps, gaps_accepted, gaps_read, gaps_refused, gaps_told}
-use Rattle.meter_table.specs.Gaps.{gaps_with, is_of_nozzle, reading_told, replacement_told}
-use Rattle.meter_table.specs.Gaps.{run_longer, run_settled, settled_run}
-use Rattle.meter_table.specs.Gaps.{with_refused, without_run}
+use Rattle.meter_table.specs.Gaps.{gaps_with, replacement_told}
 use Rattle.meter_table.specs.Laws.{AnyRun, EachRefusedReadingHasARun, EachReplacementHasALine}
 use Rattle.meter_table.specs.Laws.{EndsWith, GoesOn, NoGapIsLost, NoLineIsLost, StaysOrIsSettled}
 
@@ -76,8 +76,9 @@ each_refused_reading_has_a_run = λ place s r g x refusal told refused of_meter.
     let old = reading_of x.point x.nozzle s.nozzles in
     subst (λ (h : Gaps). AnyRun (EndsWith place.row x) h.unsettled)
     (sym (gaps_of place s r g x (Some refusal) told refused
-    ∙ ap (λ (b : Bool). if b
-    then record g { unsettled = with_refused place x old refusal g.unsettled } else g) of_meter))
+    ∙ ap (λ (b : Bool). record g {
+      unsettled = if b then with_refused place x old refusal g.unsettled else g.unsettled;
+    }) of_meter))
     (run_ends place x old refusal g.unsettled)
 
 -- ---- no line is lost
@@ -193,8 +194,9 @@ once_refused : (place : RowPlace) (s : SiteState) (r : Row) (g : Gaps) (x : Mete
     → NoLineIsLost place s r g
 once_refused place s r g x old refusal is = by_test (is_of_meter (Some refusal)) is
   where
-    by_test : (b : Bool) → gaps_with place s r g ≡ (if b
-        then record g { unsettled = with_refused place x old refusal g.unsettled } else g)
+    by_test : (b : Bool) → gaps_with place s r g ≡ record g {
+      unsettled = if b then with_refused place x old refusal g.unsettled else g.unsettled;
+    }
         → NoLineIsLost place s r g
     by_test true is = record {
       replaced = ([], ap (λ (h : Gaps). h.replaced) is ∙ sym (append-nil g.replaced));

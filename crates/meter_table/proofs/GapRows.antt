@@ -7,11 +7,11 @@ use Rattle.meters.specs.Nozzles.{reading_of}
 use Rattle.written_site.specs.SiteChecks.{first_refusal}
 use Rattle.written_site.specs.SiteState.{SiteState}
 use Rattle.written_site.specs.SiteStep.{reply_to}
-use Rattle.meter_table.specs.declared.gap.MeterReading.{MeterReading}
-use Rattle.meter_table.specs.declared.gap.RowPlace.{RowPlace}
-use Rattle.meter_table.specs.Figures.{refusal_told}
+use Rattle.row_tally.specs.Readings.{reading_told, refusal_told}
+use Rattle.row_tally.specs.declared.meter_reading.MeterReading.{MeterReading}
+use Rattle.row_tally.specs.declared.refused_run.RowPlace.{RowPlace}
 use Rattle.meter_table.specs.Gaps.{Gaps, gaps_accepted, gaps_read, gaps_refused, gaps_told}
-use Rattle.meter_table.specs.Gaps.{gaps_with, reading_told}
+use Rattle.meter_table.specs.Gaps.{gaps_with}
 use Rattle.meter_table.proofs.OneRow.{refusal_is}
 
 gaps_by : (place : RowPlace) (s : SiteState) (r : Row) (g : Gaps) (x : MeterReading) (old : ℕ)

@@ -37,8 +37,9 @@ use Rattle.nozzle_figures.specs.NozzleMoves.{by_nozzle, drawing, falling, flowin
 use Rattle.nozzle_figures.specs.NozzleMoves.{is_out, of_accepted, rising, running_by_nozzle}
 use Rattle.nozzle_figures.specs.NozzleMoves.{selling}
 use Rattle.nozzle_figures.proofs.NozzleMoves.{each_nozzle_adds_up, none_of, nothing_by}
+use Rattle.row_tally.specs.Readings.{is_of_meter, refusal_told}
 use Rattle.meter_table.specs.Counting.{is_of_point}
-use Rattle.meter_table.specs.Figures.{is_of_meter, refusal_told, refused_in, refused_reading}
+use Rattle.meter_table.specs.Figures.{refused_in, refused_reading}
 use Rattle.meter_table.specs.Figures.{replacing}
 
 -- ---- the reply

@@ -32,12 +32,12 @@ use Rattle.nozzle_figures.specs.Laws.{AddsUp}
 use Rattle.nozzle_figures.specs.NozzleMoves.{flowing, of_accepted}
 use Rattle.nozzle_figures.specs.NozzleMoves.{running_by_nozzle}
 use Rattle.nozzle_figures.proofs.NozzleMoves.{each_nozzle_adds_up}
+use Rattle.row_tally.specs.Readings.{is_of_meter}
 use Rattle.meter_table.specs.declared.figures.NozzleFigures.{NozzleFigures}
 use Rattle.meter_table.specs.Counting.{AreCountable, AreThere, AreWithin, HaveRoom, IsCountable}
 use Rattle.meter_table.specs.Counting.{IsWithin, begun, counted, counted_at, flowed, is_of_point}
 use Rattle.meter_table.specs.Counting.{is_replaced_in, is_test_at, with_row}
 use Rattle.meter_table.specs.Figures.{HasRead, MetersRead, figures_of, greatest}
-use Rattle.meter_table.specs.Figures.{is_of_meter}
 use Rattle.meter_table.specs.Figures.{refused_reading}
 use Rattle.meter_table.proofs.OneRow.{RowMoves, accepted_told, leaves_nozzle, refused_told}
 use Rattle.meter_table.proofs.OneRow.{row_moves, stays_there, times_after}

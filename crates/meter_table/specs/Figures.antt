@@ -1,11 +1,8 @@
 -- What rows count at each nozzle: the figures of its line.
-use Rattle.std.specs.Prelude.{◌≡◌, ◌-◌, ◌^◌, ℕ, Bool, true, false, List, [], ◌∷◌, length}
-use Rattle.std.specs.Prelude.{map, max, min, Option, Some, None, Result, Ok, Err, if◌then◌else◌}
+use Rattle.std.specs.Prelude.{◌≡◌, ◌-◌, ◌^◌, ℕ, List, [], ◌∷◌, length}
+use Rattle.std.specs.Prelude.{map, max, min, Option, Some, None, if◌then◌else◌}
 use Rattle.std.specs.List.{cons_option}
-use Rattle.site_base.specs.declared.answer.Answer.{Answer}
 use Rattle.site_base.specs.declared.event.Event.{Event}
-use Rattle.site_base.specs.declared.refusal.Refusal.{Refusal}
-use Rattle.site_base.specs.declared.refusal.Refusal.TheVariants.{MeterGap, MeterBack, MeterJump}
 use Rattle.site_base.specs.declared.row.Row.{Row}
 use Rattle.site_base.specs.Configured.{Configured}
 use Rattle.meters.specs.Nozzles.{Nozzle, opening_nozzles, reading_of}
@@ -16,6 +13,7 @@ use Rattle.written_site.specs.SiteState.{SiteState}
 use Rattle.written_site.specs.SiteStep.{site_after}
 use Rattle.nozzle_figures.specs.NozzleMoves.{drawing, falling, flowing, rising, running_by_nozzle}
 use Rattle.nozzle_figures.specs.NozzleMoves.{selling, sum_over}
+use Rattle.row_tally.specs.Readings.{is_of_meter, refusal_told}
 use Rattle.meter_table.specs.declared.figures.NozzleFigures.{NozzleFigures}
 
 -- ---- replacements
@@ -26,24 +24,12 @@ replacing p n s event = if replace_said p n event then 1 else 0
 
 -- ---- refused readings
 
--- the meter refuses a reading: with 17, 18 or 19
-abbrev pub is_of_meter : Option Refusal → Bool
-is_of_meter (Some (MeterGap last)) = true
-is_of_meter (Some (MeterBack last)) = true
-is_of_meter (Some MeterJump) = true
-is_of_meter refusal = false
-
 -- the reading of nozzle n of point p that a row reports at this site, if the meter refuses it
 abbrev pub refused_reading : ℕ → ℕ → SiteState → Row → Option ℕ
 refused_reading p n s r =
     if is_of_meter (first_refusal s r.actor r.event) then read_said p n r.event else None
 
--- a row's reply refuses its event so
-abbrev pub refusal_told : Result Answer Refusal → Option Refusal
-refusal_told (Ok answer) = None
-refusal_told (Err refusal) = Some refusal
-
--- the same of a row with its reply
+-- the same of a row, by its reply
 abbrev pub refused_in : ℕ → ℕ → Row → Option ℕ
 refused_in p n r = if is_of_meter (refusal_told r.reply) then read_said p n r.event else None
 

@@ -1,11 +1,10 @@
 -- The gaps in what meters counted: each replaced meter, and each run of refused readings.
-use Rattle.std.specs.Prelude.{ℕ, ◌+◌, Bool, ◌==◌, ◌&&◌, List, [], ◌∷◌, ◌++◌, option_map, Option}
-use Rattle.std.specs.Prelude.{Some, None, if◌then◌else◌}
+use Rattle.std.specs.Prelude.{ℕ, ◌+◌, List, [], ◌∷◌, ◌++◌, Option, Some, None}
 use Rattle.std.specs.List.{cons_option}
 use Rattle.site_base.specs.declared.actor.Actor.{Actor}
 use Rattle.site_base.specs.declared.actor.Actor.TheVariants.{Till}
 use Rattle.site_base.specs.declared.event.Event.{Event}
-use Rattle.site_base.specs.declared.event.Event.TheVariants.{Flow, HangUp, Lift, ReplaceMeter}
+use Rattle.site_base.specs.declared.event.Event.TheVariants.{ReplaceMeter}
 use Rattle.site_base.specs.declared.refusal.Refusal.{Refusal}
 use Rattle.site_base.specs.declared.row.Row.{Row}
 use Rattle.site_base.specs.Configured.{Configured}
@@ -13,79 +12,12 @@ use Rattle.meters.specs.Nozzles.{reading_of}
 use Rattle.written_site.specs.SiteChecks.{first_refusal}
 use Rattle.written_site.specs.SiteState.{SiteState, opening}
 use Rattle.written_site.specs.SiteStep.{site_after}
-use Rattle.meter_table.specs.declared.gap.MeterReading.{MeterReading}
-use Rattle.meter_table.specs.declared.gap.RefusedRun.{RefusedRun}
+use Rattle.row_tally.specs.Readings.{reading_told}
+use Rattle.row_tally.specs.Runs.{runs_refused, settled_run, without_run}
+use Rattle.row_tally.specs.declared.meter_reading.MeterReading.{MeterReading}
+use Rattle.row_tally.specs.declared.refused_run.RefusedRun.{RefusedRun}
+use Rattle.row_tally.specs.declared.refused_run.RowPlace.{RowPlace}
 use Rattle.meter_table.specs.declared.gap.Replacement.{Replacement}
-use Rattle.meter_table.specs.declared.gap.RowPlace.{RowPlace}
-use Rattle.meter_table.specs.Figures.{is_of_meter}
-
--- ---- runs
-
--- the run is of nozzle n of point p
-abbrev pub is_of_nozzle : ℕ → ℕ → RefusedRun → Bool
-is_of_nozzle p n run = run.point == p && run.nozzle == n
-
--- the reading that an event reports or notes, and of which nozzle
-abbrev pub reading_told : Event → Option MeterReading
-reading_told (ReplaceMeter p n reading) =
-    Some (record { point = p; nozzle = n; reading = reading })
-reading_told (Lift p n reading) = Some (record { point = p; nozzle = n; reading = reading })
-reading_told (Flow p n reading) = Some (record { point = p; nozzle = n; reading = reading })
-reading_told (HangUp p n reading) = Some (record { point = p; nozzle = n; reading = reading })
-reading_told event = None
-
--- a run that begins with this refused reading, where the meter reads what is expected
-abbrev pub run_begun : RowPlace → MeterReading → ℕ → Refusal → RefusedRun
-run_begun place x expected refusal = record {
-  first = place;
-  last = place.row;
-  point = x.point;
-  nozzle = x.nozzle;
-  refusal = refusal;
-  expected = expected;
-  reported = x.reading;
-  settled = None;
-}
-
--- a run that goes on with one more refused reading
-abbrev pub run_longer : RowPlace → MeterReading → Refusal → RefusedRun → RefusedRun
-run_longer place x refusal run = record run {
-  last = place.row;
-  refusal = refusal;
-  reported = x.reading;
-}
-
--- the place of the nozzle's run among the open ones, if it has one
-abbrev pub run_place : ℕ → ℕ → List RefusedRun → Option ℕ
-run_place p n [] = None
-run_place p n (run ∷ runs) =
-    if is_of_nozzle p n run then Some 0 else option_map (λ i. i + 1) (run_place p n runs)
-
--- the open runs, with a refused reading more: it goes on with the run of its nozzle, or begins one
-abbrev pub with_refused : RowPlace → MeterReading → ℕ → Refusal → List RefusedRun
-    → List RefusedRun
-with_refused place x expected refusal [] = run_begun place x expected refusal ∷ []
-with_refused place x expected refusal (run ∷ runs) =
-    if is_of_nozzle x.point x.nozzle run then run_longer place x refusal run ∷ runs
-    else run ∷ with_refused place x expected refusal runs
-
--- the open runs without that of the nozzle
-abbrev pub without_run : ℕ → ℕ → List RefusedRun → List RefusedRun
-without_run p n [] = []
-without_run p n (run ∷ runs) =
-    if is_of_nozzle p n run then runs else run ∷ without_run p n runs
-
--- a run that this row settles
-abbrev pub run_settled : ℕ → RefusedRun → RefusedRun
-run_settled row run = record run { settled = Some row }
-
--- the nozzle's run, which this row settles, if it has an open one
-abbrev pub settled_run : ℕ → ℕ → ℕ → List RefusedRun → List RefusedRun
-settled_run row p n [] = []
-settled_run row p n (run ∷ runs) =
-    if is_of_nozzle p n run then run_settled row run ∷ [] else settled_run row p n runs
-
--- ---- rows
 
 -- The gaps of some rows: the replaced meters, in the order of their rows; the runs that are
 -- settled, in the order of the rows that settled them; and the runs that are open.
@@ -121,9 +53,9 @@ gaps_accepted place old r x g = record {
 -- a reading that its meter refuses stands in a run; one that is refused for another reason leaves
 -- the gaps
 abbrev pub gaps_refused : RowPlace → ℕ → Refusal → MeterReading → Gaps → Gaps
-gaps_refused place expected refusal x g =
-    if is_of_meter (Some refusal)
-    then record g { unsettled = with_refused place x expected refusal g.unsettled } else g
+gaps_refused place expected refusal x g = record g {
+  unsettled = runs_refused place expected refusal x g.unsettled;
+}
 
 -- the gaps with a reading more, which is accepted or refused
 abbrev pub gaps_read : RowPlace → ℕ → Row → MeterReading → Option Refusal → Gaps → Gaps

@@ -13,14 +13,16 @@ use Rattle.written_site.specs.SiteState.{SiteState, opening}
 use Rattle.written_site.specs.Sound.{IsFit, Sound}
 use Rattle.written_site.specs.SoundRuns.{AreInRange}
 use Rattle.nozzle_figures.specs.NozzleMoves.{running_by_nozzle}
+use Rattle.row_tally.specs.Readings.{is_of_meter, reading_told}
+use Rattle.row_tally.specs.Runs.{run_settled}
 use Rattle.meter_table.specs.declared.figures.NozzleFigures.{NozzleFigures}
 use Rattle.meter_table.specs.Counting.{AreThere}
-use Rattle.meter_table.specs.declared.gap.MeterReading.{MeterReading}
-use Rattle.meter_table.specs.declared.gap.RefusedRun.{RefusedRun}
+use Rattle.row_tally.specs.declared.meter_reading.MeterReading.{MeterReading}
+use Rattle.row_tally.specs.declared.refused_run.RefusedRun.{RefusedRun}
 use Rattle.meter_table.specs.declared.gap.Replacement.{Replacement}
-use Rattle.meter_table.specs.declared.gap.RowPlace.{RowPlace}
-use Rattle.meter_table.specs.Figures.{all_figures, is_of_meter}
-use Rattle.meter_table.specs.Gaps.{Gaps, gaps_with, reading_told, run_settled}
+use Rattle.row_tally.specs.declared.refused_run.RowPlace.{RowPlace}
+use Rattle.meter_table.specs.Figures.{all_figures}
+use Rattle.meter_table.specs.Gaps.{Gaps, gaps_with}
 
 -- Closing less opening reading is what was metered, and the jumps of replaced meters. What was
 -- metered, and what was in the fuelling under way at the beginning, was sold, drawn, or is in the

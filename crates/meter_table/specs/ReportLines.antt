@@ -6,7 +6,7 @@ use Rattle.site_base.specs.declared.config.ProductEntry.{ProductEntry}
 use Rattle.site_base.specs.Configured.{Configured}
 use Rattle.site_base.specs.Members as numbered
 use Rattle.sales_table.specs.Tables.{name_of}
-use Rattle.meter_table.specs.declared.gap.RefusedRun.{RefusedRun}
+use Rattle.row_tally.specs.declared.refused_run.RefusedRun.{RefusedRun}
 use Rattle.meter_table.specs.declared.gap.Replacement.{Replacement}
 use Rattle.meter_table.specs.Gaps.{Gaps}
 use Rattle.meter_table.specs.People.{litres, litres_up}

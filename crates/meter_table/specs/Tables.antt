@@ -13,7 +13,7 @@ use Rattle.sales_table.specs.TimedSales.{time_field}
 use Rattle.meter_table.specs.declared.figures.NozzleFigures.{NozzleFigures}
 use Rattle.meter_table.specs.declared.form.Form.{Form}
 use Rattle.meter_table.specs.declared.form.Form.TheVariants.{Text, Csv, Json}
-use Rattle.meter_table.specs.declared.gap.RefusedRun.{RefusedRun}
+use Rattle.row_tally.specs.declared.refused_run.RefusedRun.{RefusedRun}
 use Rattle.meter_table.specs.declared.gap.Replacement.{Replacement}
 use Rattle.meter_table.specs.Gaps.{Gaps}
 

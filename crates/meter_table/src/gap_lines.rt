@@ -7,9 +7,10 @@ ghost use Rattle.serde_json.specs.Written.{compact_text};
 ghost use Rattle.meter_table.specs.Tables.{gap_titles, replaced_data, replaced_fields};
 ghost use Rattle.meter_table.specs.Tables.{run_data, run_fields, settled_word};
 
-use crate::gap::{RefusedRun, Replacement};
+use crate::gap::Replacement;
 use crate::words::{difference_value, difference_word, number_value, time_field, time_value};
 use itoa::Buffer;
+use row_tally::RefusedRun;
 use sales_table::csv_line;
 use serde_json::{Value, json};
 use site_base::NoMemory;

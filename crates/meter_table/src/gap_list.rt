@@ -1,10 +1,10 @@
 //! The gaps that were found so far.
 
-ghost use Rattle.std.specs.Prelude.{◌≡◌, ◌++◌, OnOk};
-ghost use Rattle.meter_table.specs.Gaps.{gaps_accepted, gaps_refused, no_gaps, run_place};
-ghost use Rattle.meter_table.specs.Gaps.{settled_run, with_refused, without_run};
+ghost use Rattle.std.specs.Prelude.{◌≡◌, OnOk};
+ghost use Rattle.meter_table.specs.Gaps.{gaps_accepted, gaps_refused, no_gaps};
 
-use crate::gap::{MeterReading, RefusedRun, Replacement, RowPlace, add_replaced};
+use crate::gap::{Replacement, add_replaced};
+use row_tally::{MeterReading, OpenRuns, RefusedRun, RowPlace};
 use site_base::{Millilitres, NoMemory, Refusal, Row};
 use std::alloc::Global;
 use std::marker::Model;
@@ -16,8 +16,7 @@ pub struct GapList {
     replaced: Vec<Replacement>,
     // In the order of the rows that settled them.
     settled: Vec<RefusedRun>,
-    // At most one for each nozzle.
-    unsettled: Vec<RefusedRun>,
+    unsettled: OpenRuns,
 }
 
 impl Model for GapList {
@@ -28,7 +27,7 @@ impl Model for GapList {
     ghost view = { λ g. record {
       replaced = g.replaced.items;
       settled = g.settled.items;
-      unsettled = g.unsettled.items;
+      unsettled = g.unsettled;
     } };
 }
 
@@ -40,7 +39,7 @@ impl GapList {
         GapList {
             replaced: Vec::new(alloc),
             settled: Vec::new(alloc),
-            unsettled: Vec::new(alloc),
+            unsettled: OpenRuns::new(alloc),
         }
     }
 
@@ -55,7 +54,8 @@ impl GapList {
     ) -> Result<(), NoMemory>
         ensures { OnOk result (self.new ≡ gaps_accepted place.now old row.now told.now self.old) }
     {
-        settle(&mut self.settled, &mut self.unsettled, place.row, told)?;
+        self.unsettled
+            .settle_into(&mut self.settled, place.row, told)?;
         add_replaced(&mut self.replaced, place, old, row)
     }
 
@@ -71,12 +71,7 @@ impl GapList {
         ensures { OnOk result
             (self.new ≡ gaps_refused place.now expected refusal told.now self.old) }
     {
-        match refusal {
-            Refusal::MeterGap(_) | Refusal::MeterBack(_) | Refusal::MeterJump => {
-                add_refused(&mut self.unsettled, place, expected, refusal, told)
-            }
-            _ => Ok(()),
-        }
+        self.unsettled.refuse(place, expected, refusal, told)
     }
 
     /// The replaced meters, in the order of their rows.
@@ -97,61 +92,6 @@ impl GapList {
     pub fn unsettled(&self) -> &[RefusedRun]
         ensures { result.now ≡ self.now.unsettled }
     {
-        &self.unsettled
+        self.unsettled.as_slice()
     }
-}
-
-/// The open run of this reading's nozzle, if it has one, is settled by this row.
-fn settle(
-    settled: &mut Vec<RefusedRun>,
-    runs: &mut Vec<RefusedRun>,
-    row: u64,
-    told: &MeterReading,
-) -> Result<(), NoMemory>
-    ensures settled { OnOk result (settled.new.items ≡ settled.old.items
-        ++ settled_run row told.now.point told.now.nozzle runs.old.items) }
-    ensures unsettled { OnOk result
-        (runs.new.items ≡ without_run told.now.point told.now.nozzle runs.old.items) }
-{
-    match find_run(runs, told) {
-        Some(place) => {
-            let run = runs.remove(place);
-            settled.push(run.settled_by(row))?;
-            Ok(())
-        }
-        None => Ok(()),
-    }
-}
-
-/// The open run of this reading's nozzle goes on with it, or begins.
-fn add_refused(
-    runs: &mut Vec<RefusedRun>,
-    place: &RowPlace,
-    expected: Millilitres,
-    refusal: Refusal,
-    told: &MeterReading,
-) -> Result<(), NoMemory>
-    ensures { OnOk result (runs.new.items
-        ≡ with_refused place.now told.now expected refusal runs.old.items) }
-{
-    match find_run(runs, told) {
-        Some(found) => {
-            let run = &mut runs[found];
-            run.go_on(place, told, refusal);
-        }
-        None => runs.push(RefusedRun::begin(place, told, expected, refusal))?,
-    }
-    Ok(())
-}
-
-/// The place of the open run of this reading's nozzle, if it has one.
-fn find_run(runs: &[RefusedRun], told: &MeterReading) -> Option<usize>
-    ensures { result ≡ run_place told.now.point told.now.nozzle runs.now }
-{
-    for (place, run) in runs.iter().enumerate() {
-        if run.is_of_nozzle(told.point, told.nozzle) {
-            return Some(place);
-        }
-    }
-    None
 }

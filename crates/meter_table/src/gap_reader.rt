@@ -6,8 +6,8 @@ ghost use Rattle.written_site.specs.SiteState.{opening};
 ghost use Rattle.written_site.specs.SiteStep.{site_after};
 ghost use Rattle.meter_table.specs.Gaps.{gaps_with, no_gaps};
 
-use crate::gap::{MeterReading, RowPlace};
 use crate::gap_list::GapList;
+use row_tally::{MeterReading, RowPlace};
 use site_base::{Millilitres, NoMemory, Row, SiteConfig};
 use site_core::Site;
 use std::alloc::Global;

@@ -22,7 +22,7 @@ mod words;
 
 pub use figures::NozzleFigures;
 pub use form::Form;
-pub use gap::{MeterReading, RefusedRun, Replacement, RowPlace};
+pub use gap::Replacement;
 pub use gap_list::GapList;
 pub use gap_reader::GapReader;
 pub use laws::{

@@ -4,8 +4,9 @@ ghost use Rattle.std.specs.Prelude.{◌≡◌, ◌++◌, IfOk, OnOk};
 ghost use Rattle.meter_table.specs.People.{last_digit, litres, litres_up};
 
 use crate::figures::NozzleFigures;
-use crate::gap::{RefusedRun, Replacement, RowPlace};
+use crate::gap::Replacement;
 use crate::words::put_number;
+use row_tally::{RefusedRun, RowPlace};
 use sales_table::name_of;
 use site_base::{NoMemory, ProductEntry};
 use std::alloc::{AllocError, Global};

@@ -7,10 +7,11 @@ ghost use Rattle.meter_table.specs.ReportLines.{difference_words, gap_words, jum
 ghost use Rattle.meter_table.specs.ReportLines.{nozzle_words, open_line, product_at};
 ghost use Rattle.meter_table.specs.ReportLines.{product_words};
 
-use crate::gap::{RefusedRun, Replacement};
+use crate::gap::Replacement;
 use crate::gap_list::GapList;
 use crate::people::{put_litres, put_litres_up};
 use crate::words::put_number;
+use row_tally::RefusedRun;
 use sales_table::name_of;
 use site_base::{
     FpNo, Millilitres, NoMemory, NozzleNo, PointEntry, ProductEntry, ProductNo, SiteConfig,

@@ -7,10 +7,11 @@ ghost use Rattle.meter_table.specs.Tables.{gaps_text, head_text, replaced_text, 
 use crate::figure_lines::{figure_line, figure_object, figure_titles};
 use crate::figures::NozzleFigures;
 use crate::form::Form;
-use crate::gap::{RefusedRun, Replacement};
+use crate::gap::Replacement;
 use crate::gap_lines::{gap_titles, replaced_line, replaced_object, run_line, run_object};
 use crate::gap_list::GapList;
 use crate::people::{put_figures, put_replaced, put_run};
+use row_tally::RefusedRun;
 use site_base::{NoMemory, ProductEntry};
 use std::alloc::Global;
 

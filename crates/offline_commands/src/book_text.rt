@@ -12,10 +12,10 @@ use day_report::{report_as_json, report_for_people};
 use forecourt_engines::SiteBook;
 use forecourt_engines::replay::ReplayEnd;
 use meter_table::{
-    Form, GapList, GapReader, MeterReader, NozzleFigures, RowPlace, figures_table, gap_words,
-    gaps_table,
+    Form, GapList, GapReader, MeterReader, NozzleFigures, figures_table, gap_words, gaps_table,
 };
 use program_io::{exit_no_memory, exit_replay};
+use row_tally::RowPlace;
 use site_base::{NoMemory, SiteConfig};
 use std::alloc::Global;
 use std::io::Read;

@@ -23,9 +23,6 @@ const NAME_OCTETS: usize = 256;
 /// What a journal's first line begins with; the digits of its site file's SHA-256 follow.
 const OF_JOURNAL: &[u8] = b"# witsomar journal of site ";
 
-/// What the first line of a history's chapter begins with.
-const HISTORY: &[u8] = b"# witsomar history ";
-
 /// What the line of a chapter that names its site begins with; the same digits follow.
 const OF_HISTORY: &[u8] = b"# site ";
 
@@ -179,7 +176,7 @@ fn is_comment(line: &[u8]) -> bool {
 /// The text whose site another file is, if the first site that a line above the first message
 /// names isn't this file's.
 fn find_another(text: &[u8], digest: &[u8; DIGEST]) -> Option<NamedText> {
-    let (mut rest, mut in_history) = (text, false);
+    let mut rest = text;
     for _ in 0..text.len() {
         let Some(end) = memchr(b'\n', rest) else {
             break;
@@ -188,15 +185,12 @@ fn find_another(text: &[u8], digest: &[u8; DIGEST]) -> Option<NamedText> {
         if let Some(site) = &site_named(OF_JOURNAL, line) {
             return unless_same(NamedText::Journal, site, digest);
         }
-        if in_history {
-            if let Some(site) = &site_named(OF_HISTORY, line) {
-                return unless_same(NamedText::History, site, digest);
-            }
+        if let Some(site) = &site_named(OF_HISTORY, line) {
+            return unless_same(NamedText::History, site, digest);
         }
         if !is_comment(line) {
             break;
         }
-        in_history = in_history || line.starts_with(HISTORY);
         rest = after_line(rest, end);
     }
     None

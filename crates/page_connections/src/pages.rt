@@ -9,9 +9,11 @@ use crate::sizes::PAGE_CONNECTIONS;
 use connection_calls::{ACCEPTS_A_TURN, Caller, accept, both_ways};
 use mio::net::{TcpListener, TcpStream};
 use mio::{Registry, Token};
+use row_tally::RowTally;
 use site_base::NoMemory;
 use site_book::{NamedSale, SiteBook};
 use site_json::PeerSession;
+use site_metrics::StationCounts;
 use site_page::Page;
 use stamps::Stamp;
 use std::alloc::Global;
@@ -94,33 +96,27 @@ impl Pages {
     }
 
     /// Each connection that is ready has its turn with the page of the book, of which these are
-    /// the unpaid transactions. `connections` is how many peers the station has, and `sessions` are
-    /// theirs; `at` is what time it is; of its history, `opened` is the time of the open shift's first row, and `seal` the
-    /// last seal.
+    /// the unpaid transactions. `counts` is what the station counts, and `sessions` are those of its
+    /// peers; `at` is what time it is; of its history, `opened` is the time of the open shift's
+    /// first row, and `seal` the last seal; `tally` is that of its rows, if there is one.
     pub fn answer_due(
         &mut self,
         registry: &Registry,
         book: &SiteBook,
         unpaid: &[NamedSale],
-        connections: usize,
+        counts: StationCounts,
         sessions: &[PeerSession],
         at: Option<Stamp>,
         opened: Option<Stamp>,
         seal: Option<&str>,
+        tally: Option<&RowTally>,
         now: Instant,
     )
         requires { unpaid.now ≡ unpaid_sales book.now }
     {
         self.is_due = false;
         let page = page_of(
-            self.alloc,
-            book,
-            unpaid,
-            connections,
-            sessions,
-            at,
-            opened,
-            seal,
+            self.alloc, book, unpaid, counts, sessions, at, opened, seal, tally,
         );
         self.take_turns(registry, &page, now);
     }
@@ -215,23 +211,26 @@ impl Pages {
     }
 }
 
-/// The page of a book at this time, with these unpaid transactions, so many connections, these
-/// sessions, this time of the open shift's first row and this last seal.
+/// The page of a book at this time, with these unpaid transactions, what the station counts, these
+/// sessions, this time of the open shift's first row, this last seal and this tally of its rows.
 fn page_of<'a>(
     alloc: Global,
     book: &'a SiteBook,
     unpaid: &'a [NamedSale],
-    connections: usize,
+    counts: StationCounts,
     sessions: &'a [PeerSession],
     at: Option<Stamp>,
     opened: Option<Stamp>,
     seal: Option<&'a str>,
+    tally: Option<&'a RowTally>,
 ) -> Page<'a>
     requires { unpaid.now ≡ unpaid_sales book.now }
-    ensures { result ≡ shown_of book.now connections sessions.now at opened
-        (option_copied seal.entry) }
+    ensures { result ≡ shown_of book.now counts sessions.now at opened
+        (option_copied seal.entry) (option_copied tally.entry) }
 {
-    Page::new(alloc, book, unpaid, connections, sessions, at, opened, seal)
+    Page::new(
+        alloc, book, unpaid, counts, sessions, at, opened, seal, tally,
+    )
 }
 
 /// Closes a connection, if there is one.

@@ -14,7 +14,7 @@ use Rattle.written_site.specs.SiteRun.{site_of_rows}
 use Rattle.written_site.specs.SiteState.{SiteState, opening}
 use Rattle.written_site.specs.SiteStep.{site_after}
 use Rattle.written_site.proofs.Histories.{site_of_rows-push}
-use Rattle.meter_table.specs.declared.gap.RowPlace.{RowPlace}
+use Rattle.row_tally.specs.declared.refused_run.RowPlace.{RowPlace}
 use Rattle.meter_table.specs.Gaps.{Gaps, GapsRead, gaps_over, gaps_with, no_gaps}
 use Rattle.meter_table.proofs.GapsOver.{gaps_over-push}
 use Rattle.past_rows.specs.declared.shifts.ShiftRange.{ShiftRange}

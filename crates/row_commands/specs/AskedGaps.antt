@@ -6,7 +6,7 @@ use Rattle.site_base.specs.Configured.{Configured}
 use Rattle.written_site.specs.SiteRun.{site_of_rows}
 use Rattle.written_site.specs.SiteState.{opening}
 use Rattle.written_site.specs.SiteStep.{site_after}
-use Rattle.meter_table.specs.declared.gap.RowPlace.{RowPlace}
+use Rattle.row_tally.specs.declared.refused_run.RowPlace.{RowPlace}
 use Rattle.meter_table.specs.Gaps.{Gaps, GapsRead, gaps_over, gaps_with, no_gaps}
 use Rattle.past_rows.specs.declared.shifts.ShiftRange.{ShiftRange}
 use Rattle.past_rows.specs.ShiftFigures.{until_shift}

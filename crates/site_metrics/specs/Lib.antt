@@ -1,1 +1,4 @@
+pub mod Counts
+pub mod Families
+pub mod Tallied
 pub mod Metrics

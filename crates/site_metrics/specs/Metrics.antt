@@ -18,24 +18,11 @@ use Rattle.written_site.specs.SiteState.{open_shift, view_point}
 use Rattle.site_json.specs.declared.sessions.PeerSession.{PeerSession}
 use Rattle.site_json.specs.Points.{state_word}
 use Rattle.site_json.specs.Transactions.{cents_of}
-
--- ---- the form
-
--- the head of a family: its type, and what it tells
-unfoldable pub head : List ℕ → List ℕ → List ℕ → List ℕ
-head name kind help =
-    codes "# TYPE " ++ name ++ codes " " ++ kind ++ codes "\n# HELP " ++ name ++ codes " " ++ help
-    ++ codes "\n"
-
--- a sample: its name, its labels, if it has any, and its value
-unfoldable pub sample : List ℕ → List ℕ → ℕ → List ℕ
-sample name labels n = name ++ labels ++ codes " " ++ decimal n ++ codes "\n"
-
--- a family of one sample, without labels
-unfoldable pub gauge : List ℕ → List ℕ → ℕ → List ℕ
-gauge name help n = head name (codes "gauge") help ++ sample name [] n
-
--- ---- the figures
+use Rattle.row_tally.specs.Tally.{Tally}
+use Rattle.site_metrics.specs.declared.counts.StationCounts.{StationCounts}
+use Rattle.site_metrics.specs.Counts.{counts_text}
+use Rattle.site_metrics.specs.Families.{gauge, head, sample}
+use Rattle.site_metrics.specs.Tallied.{tally_text}
 
 -- how many rows there are, and how many of them aren't those of reads
 unfoldable pub rows_lines : ℕ → ℕ → List ℕ
@@ -127,9 +114,13 @@ shifts_text b =
 unfoldable pub end_line : List ℕ
 end_line = codes "# EOF\n"
 
--- all figures of a book with these unpaid transactions, so many connections and these sessions
-unfoldable pub metrics_text : Book → List NamedSale → ℕ → List PeerSession → List ℕ
-metrics_text b unpaid connections sessions =
+-- all figures of a book with these unpaid transactions, of what the station counts, these sessions,
+-- and what the tally of its rows tells, if there is one
+unfoldable pub metrics_text : Book → List NamedSale → StationCounts → List PeerSession
+    → Option Tally → List ℕ
+metrics_text b unpaid counts sessions tally =
     rows_text b
-    ++ (connections_text connections sessions
-    ++ (points_text b ++ (unpaid_text unpaid ++ (shifts_text b ++ end_line))))
+    ++ (connections_text counts.connections sessions
+    ++ (points_text b
+    ++ (unpaid_text unpaid
+    ++ (shifts_text b ++ (tally_text tally ++ (counts_text counts ++ end_line))))))

@@ -1,9 +1,10 @@
 //! Families of samples, as OpenMetrics writes them.
 
 ghost use Rattle.std.specs.Prelude.{◌≡◌, ◌++◌, OnOk, string_bytes};
-ghost use Rattle.site_metrics.specs.Metrics.{end_line, gauge, head, kinds_lines, peers_lines};
+ghost use Rattle.site_metrics.specs.Families.{gauge, head, numbered, sample, seconds};
+ghost use Rattle.site_metrics.specs.Metrics.{end_line, kinds_lines, peers_lines};
 ghost use Rattle.site_metrics.specs.Metrics.{rows_lines};
-ghost use Rattle.site_metrics.specs.Metrics.{sample, sessions_lines, shifts_lines, state_line};
+ghost use Rattle.site_metrics.specs.Metrics.{sessions_lines, shifts_lines, state_line};
 ghost use Rattle.site_metrics.specs.Metrics.{unpaid_lines};
 
 use std::alloc::AllocError;
@@ -23,7 +24,7 @@ pub(crate) fn put_gauge(
 }
 
 /// Appends the head of a family.
-#[tactic(auto, unfolding(crate::specs::Metrics::head))]
+#[tactic(auto, unfolding(crate::specs::Families::head))]
 pub(crate) fn put_head(
     text: &mut String,
     name: &str,
@@ -37,7 +38,7 @@ pub(crate) fn put_head(
 }
 
 /// Appends a sample with these labels.
-#[tactic(auto, unfolding(crate::specs::Metrics::sample))]
+#[tactic(auto, unfolding(crate::specs::Families::sample))]
 pub(crate) fn put_sample(
     text: &mut String,
     name: &str,
@@ -48,6 +49,28 @@ pub(crate) fn put_sample(
         (string_bytes text.new ≡ string_bytes text.old ++ sample name.now labels.now value) }
 {
     write!(text, "{name}{labels} {value}\n")
+}
+
+/// Appends a sample that is a time, of so many microseconds.
+#[tactic(auto, unfolding(crate::specs::Families::seconds))]
+pub(crate) fn put_seconds(
+    text: &mut String,
+    name: &str,
+    microseconds: u128,
+) -> Result<(), AllocError>
+    ensures { OnOk result
+        (string_bytes text.new ≡ string_bytes text.old ++ seconds name.now microseconds) }
+{
+    write!(text, "{name} {microseconds}e-6\n")
+}
+
+/// Appends a name, and a number behind it.
+#[tactic(auto, unfolding(crate::specs::Families::numbered))]
+pub(crate) fn put_numbered(text: &mut String, name: &str, number: u8) -> Result<(), AllocError>
+    ensures { OnOk result
+        (string_bytes text.new ≡ string_bytes text.old ++ numbered name.now number) }
+{
+    write!(text, "{name}{number}")
 }
 
 /// Appends that so many points are in the state of this name.

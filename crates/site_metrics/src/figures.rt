@@ -1,6 +1,6 @@
 //! The figures of a site, family after family.
 
-ghost use Rattle.std.specs.Prelude.{◌≡◌, ◌++◌, IfOk, OnOk, flat_map, string_bytes};
+ghost use Rattle.std.specs.Prelude.{◌≡◌, ◌++◌, IfOk, OnOk, flat_map, option_copied, string_bytes};
 ghost use Rattle.device_map.specs.declared.ids.TheConstants.{DISPENSER_SUBNET, TILL_SUBNET};
 ghost use Rattle.site_book.specs.Book.{site_of_book};
 ghost use Rattle.written_site.specs.SiteState.{view_point};
@@ -8,11 +8,14 @@ ghost use Rattle.site_metrics.specs.Metrics.{connections_text, metrics_text, poi
 ghost use Rattle.site_metrics.specs.Metrics.{points_text, rows_text, sessions_of, shifts_text};
 ghost use Rattle.site_metrics.specs.Metrics.{shows, state_text, unpaid_text};
 
+use crate::counts::{StationCounts, put_counts};
 use crate::families::{
     put_end, put_head, put_peers_lines, put_rows_lines, put_shifts_lines, put_state_line,
     put_unpaid_lines,
 };
 use crate::kinds::{is_dispenser, is_till};
+use crate::tallied::put_tally;
+use row_tally::RowTally;
 use site_base::{FpNo, GREATEST_SHIFT, PointState};
 use site_book::{NamedSale, SiteBook};
 use site_json::{PeerSession, cents_of, state_word};
@@ -31,20 +34,21 @@ const STATES: [PointState; 9] = [
     PointState::SuspendedFuelling,
 ];
 
-/// The figures of a book, with these transactions, which the caller has found unpaid, so many
-/// connections, and these sessions.
+/// The figures of a book, with these transactions, which the caller has found unpaid, what the
+/// station counts, these sessions, and what the tally of its rows tells, if there is one.
 pub fn metrics_text(
     alloc: Global,
     book: &SiteBook,
     unpaid: &[NamedSale],
-    connections: usize,
+    counts: &StationCounts,
     sessions: &[PeerSession],
+    tally: Option<&RowTally>,
 ) -> Result<String, AllocError>
-    ensures { IfOk result (λ text. string_bytes text
-        ≡ metrics_text book.now unpaid.now connections sessions.now) }
+    ensures { IfOk result (λ text. string_bytes text ≡ metrics_text book.now unpaid.now
+        counts.now sessions.now (option_copied tally.entry)) }
 {
     let mut text = String::new(alloc);
-    put_figures(&mut text, book, unpaid, connections, sessions)?;
+    put_figures(&mut text, book, unpaid, counts, sessions, tally)?;
     Ok(text)
 }
 
@@ -53,17 +57,21 @@ fn put_figures(
     text: &mut String,
     book: &SiteBook,
     unpaid: &[NamedSale],
-    connections: usize,
+    counts: &StationCounts,
     sessions: &[PeerSession],
+    tally: Option<&RowTally>,
 ) -> Result<(), AllocError>
     ensures { OnOk result (string_bytes text.new ≡ string_bytes text.old
-        ++ metrics_text book.now unpaid.now connections sessions.now) }
+        ++ metrics_text book.now unpaid.now counts.now sessions.now
+        (option_copied tally.entry)) }
 {
     put_rows(text, book)?;
-    put_connections(text, connections, sessions)?;
+    put_connections(text, counts.connections, sessions)?;
     put_points(text, book)?;
     put_unpaid(text, unpaid)?;
     put_shifts(text, book)?;
+    put_tally(text, tally)?;
+    put_counts(text, counts)?;
     put_end(text)
 }
 

@@ -13,9 +13,11 @@ use Rattle.site_base.specs.declared.limits.TheConstants.{POINTS}
 use Rattle.site_book.specs.Book.{Book, is_full}
 use Rattle.site_book.specs.declared.named_sale.NamedSale.{NamedSale}
 use Rattle.site_json.specs.declared.sessions.PeerSession.{PeerSession}
-use Rattle.site_json.specs.SiteData.{site_data}
 use Rattle.site_json.specs.Transactions.{unpaid_data}
+use Rattle.site_metrics.specs.declared.counts.StationCounts.{StationCounts}
 use Rattle.site_metrics.specs.Metrics.{metrics_text}
+use Rattle.row_tally.specs.Tally.{Tally}
+use Rattle.site_gaps.specs.StationData.{station_data}
 use Rattle.site_page.specs.declared.html.TheConstants.{PAGE}
 use Rattle.site_page.specs.declared.query.Asked.{Asked}
 use Rattle.site_page.specs.declared.query.Asked.TheVariants.{All, Point, Unknown}
@@ -100,24 +102,27 @@ IsHealthAnswer false response = IsLine 200 (codes "ok\n") response
 IsHealthAnswer true response = IsLine 503 (codes "the book is full\n") response
 
 -- What requests are answered from: a book at this time, of which these are the unpaid transactions,
--- so many connections, these sessions, and of its history the time of the open shift's first row and
--- the last seal.
+-- what the station counts, these sessions, of its history the time of the open shift's first row and
+-- the last seal, and the tally of its rows, if there is one.
 pub record Shown : Type 0 where
   pub book : Book
   pub unpaid : List NamedSale
-  pub connections : ℕ
+  pub counts : StationCounts
   pub sessions : List PeerSession
   pub at : Option (List ℕ)
   pub opened : Option (List ℕ)
   pub seal : Option (List ℕ)
+  pub tally : Option Tally
 
 -- its figures for programs that watch the site
 abbrev pub IsMetricsAnswer : Shown → Response → Type 0
 IsMetricsAnswer x response =
-    IsResponse 200 metrics_fields (metrics_text x.book x.unpaid x.connections x.sessions) response
+    IsResponse 200 metrics_fields
+    (metrics_text x.book x.unpaid x.counts x.sessions x.tally) response
 
 abbrev pub shown_data : Shown → Data
-shown_data x = site_data x.book x.unpaid x.connections x.sessions x.at x.opened x.seal
+shown_data x =
+    station_data x.book x.unpaid x.counts.connections x.sessions x.at x.opened x.seal x.tally
 
 -- none of the paths that are answered
 pub record IsUnknown (path : List ℕ) : Type 0 where

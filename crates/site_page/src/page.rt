@@ -18,10 +18,12 @@ use crate::texts::{put_json, put_line, put_metrics_text};
 use bytes::Bytes;
 use http::{HeaderValue, Request, StatusCode, header};
 use http_server::{Response, Service};
+use row_tally::RowTally;
 use site_base::FpNo;
 use site_book::{NamedSale, SiteBook};
-use site_json::{PeerSession, site_text, unpaid_text};
-use site_metrics::metrics_text;
+use site_gaps::station_text;
+use site_json::{PeerSession, unpaid_text};
+use site_metrics::{StationCounts, metrics_text};
 use stamps::Stamp;
 use std::alloc::{AllocError, Global};
 use std::marker::Model;
@@ -32,11 +34,12 @@ pub struct Page<'a> {
     alloc: Global,
     book: &'a SiteBook,
     unpaid: &'a [NamedSale],
-    connections: usize,
+    counts: StationCounts,
     sessions: &'a [PeerSession],
     at: Option<Stamp>,
     opened: Option<Stamp>,
     seal: Option<&'a str>,
+    tally: Option<&'a RowTally>,
 }
 
 impl<'a> Model for Page<'a> {
@@ -48,45 +51,49 @@ impl<'a> Model for Page<'a> {
     ghost view = { λ p. record {
       book = p.book.now;
       unpaid = p.unpaid.now;
-      connections = p.connections;
+      counts = p.counts;
       sessions = p.sessions.now;
       at = p.at;
       opened = p.opened;
       seal = option_copied p.seal;
+      tally = option_copied p.tally;
     } };
 }
 
 impl<'a> Page<'a> {
-    /// The page of a book's site at this time, if it is known, with these transactions, which the caller has found unpaid, so
-    /// many connections, these sessions, and of its history the time of the open shift's first row
-    /// and the last seal.
+    /// The page of a book's site at this time, if it is known, with these transactions, which the
+    /// caller has found unpaid, what the station counts, these sessions, of its history the time of
+    /// the open shift's first row and the last seal, and the tally of its rows, if there is one.
     pub fn new(
         alloc: Global,
         book: &'a SiteBook,
         unpaid: &'a [NamedSale],
-        connections: usize,
+        counts: StationCounts,
         sessions: &'a [PeerSession],
         at: Option<Stamp>,
         opened: Option<Stamp>,
         seal: Option<&'a str>,
+        tally: Option<&'a RowTally>,
     ) -> Page<'a>
         ensures book { result.book ≡ book.now }
         ensures unpaid { result.unpaid ≡ unpaid.now }
-        ensures connections { result.connections ≡ connections }
+        ensures counts { result.counts ≡ counts }
         ensures sessions { result.sessions ≡ sessions.now }
         ensures at { result.at ≡ at }
         ensures opened { result.opened ≡ opened }
         ensures seal { result.seal ≡ option_copied seal.entry }
+        ensures tally { result.tally ≡ option_copied tally.entry }
     {
         Page {
             alloc,
             book,
             unpaid,
-            connections,
+            counts,
             sessions,
             at,
             opened,
             seal,
+            tally,
         }
     }
 
@@ -98,11 +105,12 @@ impl<'a> Page<'a> {
             alloc: self.alloc,
             book: self.book,
             unpaid: self.unpaid,
-            connections: self.connections,
+            counts: self.counts,
             sessions: self.sessions,
             at: self.at,
             opened: self.opened,
             seal: self.seal,
+            tally: self.tally,
         }
     }
 
@@ -134,15 +142,16 @@ impl<'a> Page<'a> {
         requires { IsBlank response.old }
         ensures { OnOk result (IsJson (shown_data self.now) response.new) }
     {
-        match site_text(
+        match station_text(
             self.alloc,
             self.book,
             self.unpaid,
-            self.connections,
+            self.counts.connections,
             self.sessions,
             self.at,
             self.opened,
             self.seal,
+            self.tally,
         ) {
             Ok(text) => put_json(text, response),
             Err(_) => Err(AllocError),
@@ -186,8 +195,9 @@ impl<'a> Page<'a> {
             self.alloc,
             self.book,
             self.unpaid,
-            self.connections,
+            &self.counts,
             self.sessions,
+            self.tally,
         )?;
         put_metrics_text(text, response)
     }

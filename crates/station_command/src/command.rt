@@ -10,7 +10,7 @@ ghost use Rattle.station_command.specs.Histories.{IsFound};
 
 use crate::doors::open_doors;
 use crate::error_lines::{ErrorLines, Reporting};
-use crate::feed_start::read_fed;
+use crate::feed_start::{EarlierRows, read_earlier};
 use crate::found::{FoundHistory, print_found};
 use crate::histories::open_station;
 use crate::input_watch::InputWatch;
@@ -21,8 +21,8 @@ use history_files::HistoryDisk;
 use journal::{Disk, Opened};
 use peer_connections::{Connections, FedRows, Patience, PeerStream};
 use program_io::{COMMAND_LINE, FAULT, TURNS, exit_with};
+use row_tally::RowTally;
 use site_base::{SiteConfig, TillNo};
-use site_book::SiteBook;
 use station_days::{station_day, to_day_fault};
 use station_server::{Doors, ServerFault, StationServer};
 use std::fs::File;
@@ -133,8 +133,10 @@ fn run_opened<
     };
     warn_of_no_doors(rt, options.doors, &open.doors);
     let has_feed = plans.station.feed.is_some() || open.doors.has_feed();
-    let fed = match find_fed(rt, has_feed, options.history, opened.station.book()) {
-        Ok(fed) => fed,
+    let has_page = plans.station.page.is_some();
+    let book = opened.station.book();
+    let earlier = match read_earlier(rt, options.history, book, has_feed, has_page) {
+        Ok(earlier) => earlier,
         Err(status) => {
             open.sockets.remove(rt);
             return status;
@@ -156,24 +158,11 @@ fn run_opened<
         lines: &lines,
     };
     let end = serve_on(
-        rt, &reporting, threads, input, opened, found, fed, open.doors, plans, options,
+        rt, &reporting, threads, input, opened, found, earlier, open.doors, plans, options,
     );
     lines.end(threads);
     open.sockets.remove(rt);
     exit_day(rt, end)
-}
-
-/// What the feed's peers are told at first, if there is to be a feed; or how the program ends.
-fn find_fed<R: Files + Eprint + AllocGlobal>(
-    rt: &R,
-    has_feed: bool,
-    history: Option<&str>,
-    book: &SiteBook,
-) -> Result<Option<FedRows>, ExitCode> {
-    if !has_feed {
-        return Ok(None);
-    }
-    Ok(Some(read_fed(rt, history, book)?))
 }
 
 /// Says that the folder of the doors, if there is one, has none: each node may speak over TCP then.
@@ -198,6 +187,14 @@ fn find_house(config: &SiteConfig, number: Option<u8>) -> Result<Option<TillNo>,
     Err(number)
 }
 
+/// The feed's peers, if there is a feed, and the page are told of these rows at first.
+fn begin_telling<D: Disk>(connections: &mut Connections<D, PeerStream>, earlier: EarlierRows)
+    ensures { connections.new.stored ≡ connections.old.stored }
+{
+    begin_feed(connections, earlier.fed);
+    begin_tally(connections, earlier.tally);
+}
+
 /// If there is a feed, its peers are told these rows at first.
 fn begin_feed<D: Disk>(connections: &mut Connections<D, PeerStream>, fed: Option<FedRows>)
     ensures { connections.new.stored ≡ connections.old.stored }
@@ -207,8 +204,16 @@ fn begin_feed<D: Disk>(connections: &mut Connections<D, PeerStream>, fed: Option
     }
 }
 
-/// Listens, and serves a day of this station, of whose history this was found. If there is a feed,
-/// its peers are told these rows at first.
+/// If there is a page, this is its tally at first.
+fn begin_tally<D: Disk>(connections: &mut Connections<D, PeerStream>, tally: Option<RowTally>)
+    ensures { connections.new.stored ≡ connections.old.stored }
+{
+    if let Some(tally) = tally {
+        connections.begin_tally(tally);
+    }
+}
+
+/// Listens, and serves a day of this station, of whose history this was found, and these rows.
 fn serve_on<R: StationHost, T: Threads + Wait + Sync, I: Read + Send + Drop + 'static>(
     rt: &R,
     reporting: &Reporting<'_, R>,
@@ -216,7 +221,7 @@ fn serve_on<R: StationHost, T: Threads + Wait + Sync, I: Read + Send + Drop + 's
     input: I,
     opened: Opened<HistoryDisk<'_, R>>,
     found: FoundHistory,
-    fed: Option<FedRows>,
+    earlier: EarlierRows,
     doors: Doors,
     plans: Plans,
     options: StationOptions<'_>,
@@ -232,7 +237,7 @@ fn serve_on<R: StationHost, T: Threads + Wait + Sync, I: Read + Send + Drop + 's
         plans.station.rate,
         plans.patience(),
     )?;
-    begin_feed(&mut connections, fed);
+    begin_telling(&mut connections, earlier);
     let end = serve_peers(
         rt,
         reporting,

@@ -1,4 +1,4 @@
-//! What the feed's peers are told at a start: the rows of the history so far.
+//! What is told of the rows of a history so far, at a start: to the feed's peers, and on the page.
 
 ghost use Rattle.std.specs.Prelude.{IfErr};
 ghost use Rattle.program_io.specs.Statuses.{IsFailed};
@@ -8,51 +8,88 @@ use peer_connections::FedRows;
 use program_io::{FAULT, exit_no_memory, exit_with};
 use row_feed::ChapterStarts;
 use row_json::{GREATEST_ROW, LastRows};
-use site_base::NoMemory;
+use row_tally::RowTally;
+use site_base::{NoMemory, Row, SiteConfig};
 use site_book::SiteBook;
+use stamps::Stamp;
+use std::alloc::Global;
 use std::process::ExitCode;
 use std::rt::Files;
 
-/// What the feed's peers are told where a station begins with this book, or how the program ends:
-/// the last rows of the history in this folder, and where its chapters begin; without a history no
-/// row yet.
-pub fn read_fed<R: Files + Eprint + AllocGlobal>(
+/// What is told of the rows of a history so far.
+#[derive(Drop)]
+pub struct EarlierRows {
+    /// What the feed's peers are told, if there is a feed.
+    pub fed: Option<FedRows>,
+    /// The tally that the page shows, if there is a page.
+    pub tally: Option<RowTally>,
+}
+
+/// Reads the rows of a history so far: for the feed if there is one, and for the page.
+#[derive(Drop)]
+struct EarlierReader {
+    /// So many rows were read.
+    count: u64,
+    fed: Option<FedReader>,
+    tally: Option<RowTally>,
+}
+
+/// Reads rows for the feed: the last ones, and where chapters begin.
+#[derive(Drop)]
+struct FedReader {
+    rows: LastRows,
+    starts: ChapterStarts,
+}
+
+/// What is told of the rows so far where a station begins with this book, or how the program ends:
+/// of those of the history in this folder; without a history no row yet.
+pub fn read_earlier<R: Files + Eprint + AllocGlobal>(
     rt: &R,
     history: Option<&str>,
     book: &SiteBook,
-) -> Result<FedRows, ExitCode>
+    has_feed: bool,
+    has_page: bool,
+) -> Result<EarlierRows, ExitCode>
     ensures { IfErr result IsFailed }
 {
-    match history {
-        Some(folder) => read_history(rt, folder, book.kept_len()),
-        None => match LastRows::open(rt.alloc(), book.config()) {
-            Ok(rows) => Ok(FedRows::new(rows, ChapterStarts::new(rt.alloc()))),
+    let Some(folder) = history else {
+        return match EarlierReader::open(rt.alloc(), book.config(), has_feed, has_page) {
+            Ok(reader) => Ok(reader.end()),
             Err(NoMemory) => Err(exit_no_memory(rt)),
-        },
+        };
+    };
+    if !has_feed && !has_page {
+        return Ok(EarlierRows {
+            fed: None,
+            tally: None,
+        });
     }
+    read_history(rt, folder, book.kept_len(), has_feed, has_page)
 }
 
-/// The last rows of the history in this folder, which has so many, and where its chapters begin.
+/// What is told of the rows of the history in this folder, which has so many.
 fn read_history<R: Files + Eprint + AllocGlobal>(
     rt: &R,
     folder: &str,
     count: u64,
-) -> Result<FedRows, ExitCode>
+    has_feed: bool,
+    has_page: bool,
+) -> Result<EarlierRows, ExitCode>
     ensures { IfErr result IsFailed }
 {
     let mut walk = FolderWalk::open(rt, folder)?;
-    let Ok(mut rows) = LastRows::open(rt.alloc(), walk.book().config()) else {
+    let opened = EarlierReader::open(rt.alloc(), walk.book().config(), has_feed, has_page);
+    let Ok(mut reader) = opened else {
         return Err(exit_no_memory(rt));
     };
-    let mut starts = ChapterStarts::new(rt.alloc());
-    match read_rows(rt, folder, &mut walk, &mut rows, &mut starts) {
+    match read_rows(rt, folder, &mut walk, &mut reader) {
         Ok(()) => {}
         Err(status) => return Err(status),
     }
-    if rows.next() != count {
+    if reader.count != count {
         return Err(exit_with(eprintln!(rt; "cannot read {folder}"), FAULT));
     }
-    Ok(FedRows::new(rows, starts))
+    Ok(reader.end())
 }
 
 /// Reads each row that is left of a walk, and notes with which a chapter begins.
@@ -60,21 +97,20 @@ fn read_rows<R: Files + Eprint + AllocGlobal>(
     rt: &R,
     folder: &str,
     walk: &mut FolderWalk,
-    rows: &mut LastRows,
-    starts: &mut ChapterStarts,
+    reader: &mut EarlierReader,
 ) -> Result<(), ExitCode>
     ensures { IfErr result IsFailed }
 {
-    for _ in rows.next()..GREATEST_ROW {
+    for _ in 0..GREATEST_ROW {
         let begun = walk.end().chapters();
         let row = walk.next(rt, folder)?;
-        if note_chapters(begun, walk.end().chapters(), rows.next(), starts).is_err() {
+        if reader.begin_chapters(begun, walk.end().chapters()).is_err() {
             return Err(exit_no_memory(rt));
         }
         let Some(row) = row else {
             return Ok(());
         };
-        match rows.read(walk.end().time(), &row) {
+        match reader.read(walk.end().time(), &row) {
             Ok(()) => {}
             Err(NoMemory) => return Err(exit_no_memory(rt)),
         }
@@ -83,15 +119,68 @@ fn read_rows<R: Files + Eprint + AllocGlobal>(
     Err(exit_no_memory(rt))
 }
 
-/// Each of the chapters behind the first so many begins with this row.
-fn note_chapters(
-    begun: u64,
-    count: u64,
-    row: u64,
-    starts: &mut ChapterStarts,
-) -> Result<(), NoMemory> {
-    for _ in begun..count {
-        starts.add(row)?;
+impl EarlierReader {
+    /// A reader of the rows of this site, which has read none.
+    fn open(
+        alloc: Global,
+        config: &SiteConfig,
+        has_feed: bool,
+        has_page: bool,
+    ) -> Result<EarlierReader, NoMemory> {
+        let mut reader = EarlierReader {
+            count: 0,
+            fed: None,
+            tally: None,
+        };
+        if has_feed {
+            reader.fed = Some(FedReader {
+                rows: LastRows::open(alloc, config)?,
+                starts: ChapterStarts::new(alloc),
+            });
+        }
+        if has_page {
+            reader.tally = Some(RowTally::open(alloc, config)?);
+        }
+        Ok(reader)
     }
-    Ok(())
+
+    /// Each of the chapters behind the first so many begins with the next row.
+    fn begin_chapters(&mut self, begun: u64, count: u64) -> Result<(), NoMemory> {
+        let Some(fed) = &mut self.fed else {
+            return Ok(());
+        };
+        for _ in begun..count {
+            fed.starts.add(fed.rows.next())?;
+        }
+        Ok(())
+    }
+
+    /// Reads the next row, which has this time.
+    fn read(&mut self, time: Option<Stamp>, row: &Row) -> Result<(), NoMemory> {
+        if let Some(fed) = &mut self.fed {
+            if fed.rows.next() >= GREATEST_ROW {
+                return Err(NoMemory);
+            }
+            fed.rows.read(time, row)?;
+        }
+        if let Some(tally) = &mut self.tally {
+            tally.read(&time, row)?;
+        }
+        self.count = self.count.saturating_add(1);
+        Ok(())
+    }
+
+    /// What is told of the rows that were read.
+    fn end(self) -> EarlierRows {
+        EarlierRows {
+            fed: fed_rows(self.fed),
+            tally: self.tally,
+        }
+    }
+}
+
+/// What the feed's peers are told of the rows that were read, if there is a feed.
+fn fed_rows(fed: Option<FedReader>) -> Option<FedRows> {
+    let fed = fed?;
+    Some(FedRows::new(fed.rows, fed.starts))
 }

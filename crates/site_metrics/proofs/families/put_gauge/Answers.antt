@@ -1,5 +1,5 @@
 use Rattle.std.proofs.Common.{refl}
-use Rattle.site_metrics.specs.Metrics.{gauge}
+use Rattle.site_metrics.specs.Families.{gauge}
 use Rattle.site_metrics.proofs.JoinedTexts.{put_last}
 use Rattle.site_metrics.proofs.families.put_gauge.Goals as goal
 

@@ -1,0 +1,36 @@
+//! The readings that events tell.
+
+ghost use Rattle.std.specs.Prelude.{◌≡◌};
+ghost use Rattle.row_tally.specs.Readings.{reading_told};
+
+use site_base::{Event, FpNo, Millilitres, NozzleNo};
+
+/// A reading of a nozzle's meter.
+#[derive(Clone, Copy, Debug, PartialEq, Eq)]
+pub struct MeterReading {
+    /// The fuelling point.
+    pub point: FpNo,
+    /// Its nozzle.
+    pub nozzle: NozzleNo,
+    /// What the meter reads.
+    pub reading: Millilitres,
+}
+
+impl MeterReading {
+    /// The reading that an event reports or notes, if it does.
+    pub fn told_by(event: &Event) -> Option<MeterReading>
+        ensures { result ≡ reading_told event.now }
+    {
+        match event {
+            Event::ReplaceMeter(point, nozzle, reading)
+            | Event::Lift(point, nozzle, reading)
+            | Event::Flow(point, nozzle, reading)
+            | Event::HangUp(point, nozzle, reading) => Some(MeterReading {
+                point: *point,
+                nozzle: *nozzle,
+                reading: *reading,
+            }),
+            _ => None,
+        }
+    }
+}

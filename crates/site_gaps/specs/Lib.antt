@@ -1,0 +1,2 @@
+pub mod GapData
+pub mod StationData
