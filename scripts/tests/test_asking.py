@@ -94,7 +94,8 @@ def at_a_door():
         for path in (doors / "till-01", doors / "till-01" / "socket"):
             expect_end(f"at {path.name}", ask(lines, "--door", path, "--strict"), 0, wanted)
         wanted = told("to t1, token 1: 57 OriginatorChanged")
-        expect_end("at another's", ask(lines, "--door", doors / "dispenser-01", "--strict"), 1, wanted)
+        asked = ask(lines, "--door", doors / "dispenser-01", "--strict")
+        expect_end("at another's", asked, 1, wanted)
         end(day)
 
 

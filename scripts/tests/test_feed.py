@@ -1,5 +1,5 @@
-"""Rows as JSON: `forecourt replay FOLDER --json`. What is expected is in docs/PAGE.md: Rows as JSON,
-and is worked out by hand from its tables."""
+"""Rows as JSON: `forecourt replay FOLDER --json`. What is expected is in docs/PAGE.md: Rows as
+JSON, and is worked out by hand from its tables."""
 
 import json
 

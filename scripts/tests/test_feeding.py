@@ -151,7 +151,8 @@ def mistaken_first_lines():
     why = '{"fault":"a feed begins with a line: from N, or from end"}\n'
     with start_feed("--history", HERE / "mistakes") as day:
         words = ["", "from", "from ", "from x", "from -1", "from 01", "From 0", "from 0 ", "0",
-                 " from 0", "from end ", "from 0\r", f"from {2**64}", "x" * 65, "x" * 100_000]  # fmt: skip
+                 " from 0", "from end ", "from 0\r", f"from {2**64}", "x" * 65,
+                 "x" * 100_000]  # fmt: skip
         for word in words:
             with day.feed(word) as feed:
                 expect(f"{word[:80]!r}", feed.rest(), [why])

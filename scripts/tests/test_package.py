@@ -1,7 +1,7 @@
-"""The Debian package, as `make package` makes it: what is in it, that it is installed into a root of
-its own, runs from there, and leaves nothing behind when it is removed but the histories. Without
-`dpkg-deb` these tests are skipped; `lintian`, `systemd-analyze` and the shells are asked where they
-are installed."""
+"""The Debian package, as `make package` makes it: what is in it, that it is installed into a root
+of its own, runs from there, and leaves nothing behind when it is removed but the histories.
+Without `dpkg-deb` these tests are skipped; `lintian`, `systemd-analyze` and the shells are asked
+where they are installed."""
 
 import contextlib
 import functools

@@ -192,11 +192,13 @@ def list_connected(site):
 
 @test
 def who_is_connected():
-    """Each session stands there from its first message until its connection ends: whose it is, since
-    when, and how long ago something came. A point's dispenser is connected while it has one."""
+    """Each session stands there from its first message until its connection ends: whose it is,
+    since when, and how long ago something came. A point's dispenser is connected while it has
+    one."""
     with start_page() as page:
         before = datetime.datetime.now(datetime.timezone.utc).isoformat(timespec="milliseconds")
-        with page.day.connect() as silent, page.day.connect() as first, page.day.connect() as second:
+        connect_peer = page.day.connect
+        with connect_peer() as silent, connect_peer() as first, connect_peer() as second:
             wait_until("they are there", lambda: page.site()["connections"] == 4)
             expect("a till that has spoken", list_sessions(page.site()), [(TILL, 1)])
             expect("no dispenser", list_connected(page.site()), [])
