@@ -52,7 +52,7 @@ bench: build
 	@scripts/bench/server $(PROGRAM)
 	@scripts/bench/station $(PROGRAM)
 	@scripts/bench/station --history $(PROGRAM)
-	@scripts/bench/station --page $(PROGRAM)
+	@scripts/bench/page $(PROGRAM)
 	@scripts/bench/feeds $(PROGRAM)
 	@scripts/bench/flood $(PROGRAM)
 	@scripts/bench/instructions $(PROGRAM)

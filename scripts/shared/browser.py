@@ -13,7 +13,6 @@ import tempfile
 import time
 
 from shared.checks import Failed
-from shared.pictures import shrink
 from shared.serving import LOOK, WAIT
 
 NAMES = ("chromium", "chromium-browser", "google-chrome")
@@ -93,9 +92,9 @@ class Browser:
             raise Failed(f"{script}: {answer['exceptionDetails']}")
         return answer["result"].get("value")
 
-    def picture(self, path):
-        """Writes what the page shows, as PNG."""
-        path.write_bytes(shrink(base64.b64decode(self.call("Page.captureScreenshot")["data"])))
+    def picture(self):
+        """What the page shows, as PNG."""
+        return base64.b64decode(self.call("Page.captureScreenshot")["data"])
 
 
 @contextlib.contextmanager

@@ -6,6 +6,7 @@ import os
 import threading
 
 SHOWN = 300  # characters of a text that isn't as wanted
+NO_FILE = "No such file or directory"  # the system's words
 
 
 class Failed(Exception):
@@ -57,6 +58,11 @@ def expect_end(what, end, status=0, out=b"", err=""):
     out = out.read_bytes() if isinstance(out, os.PathLike) else out
     got = {"status ": end.status, "output ": end.out, "error ": end.err.removesuffix("\n")}
     expect_parts(what, got, {"status ": status, "output ": out, "error ": err})
+
+
+def first_line(text):
+    """The first line of a text, with its line feed: of a site file's fault its number and key."""
+    return text[: text.find("\n") + 1]
 
 
 def expect_parts(what, got, wanted):

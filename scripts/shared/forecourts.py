@@ -8,6 +8,7 @@ TILLS = 32
 OFFLINE, CLOSED, IDLE, CALLING, AUTHORISED, STARTED, HELD_BACK, FUELLING, SUSPENDED = range(1, 10)
 MOST = 1_000_000  # millilitres that one report may tell
 GREATEST = 99_999_999  # of a preset
+HIGH = 999_900_000_000  # of a reading, which has as many digits as one may have
 
 
 class Site:
@@ -181,7 +182,7 @@ def make_crowded_day(first=1, numbers=range(1, 65)):
     day."""
     prices = (1_789, 1_859, 1_999, 1_819, 99_999, 99_999, 99_999, 99_999)
     nozzles = {True: (1, 2, 3, 4), False: (5, 6, 7, 8)}
-    points = {p: [(n, 0) for n in nozzles[p <= PLAIN]] for p in numbers}
+    points = {p: [(n, 0 if p <= PLAIN else HIGH) for n in nozzles[p <= PLAIN]] for p in numbers}
     site = Site(tuple(zip(LONG_NAMES, prices)), points)
     day = Day(site)
     for till in range(1, TILLS + 1):
@@ -189,6 +190,20 @@ def make_crowded_day(first=1, numbers=range(1, 65)):
     for point in numbers:
         if point >= first:
             crowd_point(day, point, 1 + (point - 1) % 9, KINDS[(point - 1) // 9 % len(KINDS)])
+    return site, day
+
+
+def make_unpaid_day():
+    """64 points: the first one closed, the others idle with two unpaid transactions each. Returns
+    the site and the day."""
+    products = (("diesel", 1_689), ("petrol-95", 1_759))
+    site = Site(products, {point: [(1, 0), (2, 0)] for point in range(1, 65)})
+    day = Day(site)
+    day.till(1, "SignOn")
+    for point in range(2, 65):
+        day.till(1, "Open", point)
+        for nozzle in (1, 2):
+            day.sell(point, nozzle, 20_000 + 130 * point)
     return site, day
 
 

@@ -61,6 +61,14 @@ def measure(*command, given=os.devnull, sink=os.devnull):
     return usage.ru_utime + usage.ru_stime, usage.ru_maxrss
 
 
+def tell_deaf(port):
+    """What a program says that can't listen on a port, or with 0 on a free one."""
+    if port == 0:
+        return "fault 63\n"
+    why = "another program may do so, or this user may not"
+    return f"fault 63\ncannot listen on port {port}: {why}\n"
+
+
 def stop(why):
     """Ends the script, and says why."""
     script = pathlib.Path(sys.argv[0]).resolve()

@@ -35,7 +35,10 @@ def wait_until(what, is_so):
 
 def list_addresses(process):
     """The addresses of a process's sockets in the system's tables, each with its state."""
-    own = {os.readlink(file) for file in pathlib.Path(f"/proc/{process.pid}/fd").iterdir()}
+    own = set()
+    for file in pathlib.Path(f"/proc/{process.pid}/fd").iterdir():
+        with contextlib.suppress(FileNotFoundError):  # it was closed meanwhile
+            own.add(os.readlink(file))
     bound = []
     for table in ("tcp", "tcp6", "udp", "udp6"):
         with contextlib.suppress(FileNotFoundError):

@@ -4,17 +4,21 @@ Ends of the program."""
 
 import contextlib
 import socket
+import subprocess
 import threading
+import time
 
 from shared.checks import expect, expect_end
 from shared.running import close_input, run
 from shared.serving import start_day
 from shared.station import KNOWN_SITE
 from tests.built import PROGRAM
-from tests.suite import make_folder, test
+from tests.suite import make_folder, test, test_beside
 
 HERE = make_folder()
 NOBODY = "the station closed the connection before it replied"
+SILENT = "no reply came within 30 seconds"
+PATIENCE, LATE = 30, 3  # seconds that `ask` waits for a reply, and that it may be late
 
 
 def start_station(*words):
@@ -97,6 +101,103 @@ def at_a_door():
         asked = ask(lines, "--door", doors / "dispenser-01", "--strict")
         expect_end("at another's", asked, 1, wanted)
         end(day)
+
+
+@contextlib.contextmanager
+def start_asking(port):
+    """`ask` of a session that goes on: what sends it a line and returns the lines of its output up
+    to the reply to that one, and its process."""
+    command = [PROGRAM, "ask", "--port", str(port)]
+    pipe = subprocess.PIPE
+    with subprocess.Popen(command, stdin=pipe, stdout=pipe, stderr=pipe, bufsize=0) as asking:
+
+        def ask_on(line, token):
+            asking.stdin.write(f"{line}\n".encode())
+            lines = []
+            while not lines or f", token {token}: " not in lines[-1]:
+                lines.append(asking.stdout.readline().decode().removesuffix("\n"))
+                if not lines[-1]:
+                    break
+            return lines
+
+        yield ask_on, asking
+        asking.kill()
+
+
+@test
+def notices_come_between_replies():
+    """A till changes the point of a dispenser that is asked for: notices that came since its last
+    reply are told before the next one, in order. None is taken for a reply, and none is told of
+    another point or of a request that was refused. A till is told none."""
+    with start_station("--port", 0) as day, start_asking(day.port) as (ask_on, asking):
+        lines = ["to d1, token 1: 10 WrongState(closed)"]
+        expect("the first", ask_on("d1 Online 1", 1), lines)
+        lines = "t1 SignOn\nt1 Open 1\nt1 Open 2\nt1 Open 1\nt1 Release 1 volume 3000\n"
+        replies = ["Done", "Done", "Done", "10 WrongState(idle)", "Done"]
+        wanted = told(*(f"to t1, token {n}: {reply}" for n, reply in enumerate(replies, 1)))
+        expect_end("a till", ask(lines, "--port", day.port), 0, wanted)
+        lines = ["to d1: Open 1", "to d1: Release 1 volume 3000"]
+        lines.append("to d1, token 2: Start{Volume(3000), 1500}")
+        expect("behind notices", ask_on("d1 Lift 1 1@0", 2), lines)
+        expect("without one", ask_on("d1 Flow 1 1@1000", 3), ["to d1, token 3: Flowed(1000)"])
+        lines = "t1 SignOn\nt1 Suspend 1\nt1 Resume 1\nt1 Terminate 1\nt1 SignOff\n"
+        replies = ["Done", "Done", "Done", "Ending", "Done"]
+        wanted = told(*(f"to t1, token {n}: {reply}" for n, reply in enumerate(replies, 1)))
+        expect_end("the till again", ask(lines, "--port", day.port), 0, wanted)
+        lines = ["to d1: Suspend 1", "to d1: Resume 1", "to d1: Terminate 1"]
+        lines.append("to d1, token 4: Sold{1, 500}")
+        expect("behind three", ask_on("d1 HangUp 1 1@1500", 4), lines)
+        asking.stdin.close()
+        asking.stdin = None
+        out, err = asking.communicate(timeout=PATIENCE)
+        expect("its end", (asking.returncode, out, err), (0, b"", b""))
+        report = end(day)
+        expect("rows", report.splitlines()[0], "rows 15")
+
+
+@test
+def strict_passes_over_notices():
+    """A notice is no refusal."""
+    with start_station("--port", 0) as day:
+        lines = "t1 SignOn\nt1 Open 1\nt1 Release 1\n"
+        expect("a till", ask(lines, "--port", day.port, "--strict").status, 0)
+        lines = "d1 Lift 1 1@0\nd1 HangUp 1 1@0\n"
+        wanted = told("to d1, token 1: Start{Unset, 1500}", "to d1: Open 1", "to d1: Release 1",
+                      "to d1, token 2: NoSale")  # fmt: skip
+        expect_end("strict", ask(lines, "--strict", "--port", day.port), 0, wanted)
+        end(day)
+
+
+@test_beside
+def no_reply_comes():
+    """Somebody listens, takes what is asked and never replies; or replies to the first of two
+    requests alone: `ask` says so half a minute later."""
+    reply = bytes.fromhex("02 01 01 01 00 E1 00 08 01 01 01 01 00 03 01 00")  # Done
+    for answer, out in ((b"", b""), (reply, told("to t1, token 1: Done"))):
+        with start_mute(answer) as port:
+            began = time.monotonic()
+            ended = ask("t1 SignOn\nt1 ReadSite\n", "--port", port)
+            waited = time.monotonic() - began
+        expect_end("what it says", ended, 1, out, SILENT)
+        expect(f"after {waited:.1f} s", 0 <= waited - PATIENCE < LATE, True)
+
+
+@contextlib.contextmanager
+def start_mute(answer):
+    """A server that answers what it is sent first so, and then nothing until it is hung up on."""
+    with socket.create_server(("127.0.0.1", 0)) as server:
+
+        def serve():
+            with server.accept()[0] as peer:
+                peer.recv(4_096)
+                peer.sendall(answer)
+                while peer.recv(4_096):
+                    pass
+
+        thread = threading.Thread(target=serve)
+        thread.start()
+        yield server.getsockname()[1]
+        thread.join()
 
 
 @test

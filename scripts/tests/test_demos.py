@@ -8,7 +8,7 @@
 
 import os
 
-from shared.checks import expect, expect_end
+from shared.checks import NO_FILE, expect, expect_end, first_line
 from shared.running import CRATES, EXAMPLES, compile_c, run
 from shared.station import FIVE_POINTS
 from tests.built import PROGRAM
@@ -72,11 +72,12 @@ def side_by_side():
 def faulty_files():
     """A script or a site file that isn't there, or is none."""
     none = HERE / "none"
-    expect_end("no script", run_demo(FIVE_POINTS, none), 1, b"", f"cannot read {none}")
-    expect_end("no site", run_demo(none, HERE / "neither"), 1, b"", f"cannot read {none}")
-    expect_end(
-        "the site first", run_demo(write("till\n", "site"), write("x\n")), 1, b"", "fault 70"
-    )
+    said = f"cannot read {none}: {NO_FILE}"
+    expect_end("no script", run_demo(FIVE_POINTS, none), 1, b"", said)
+    expect_end("no site", run_demo(none, HERE / "neither"), 1, b"", said)
+    end = run_demo(write("till\n", "site"), write("x\n"))
+    end = end._replace(err=first_line(end.err))
+    expect_end("the site first", end, 1, b"", "fault 70")
     expect("no words for a script", run_demo(FIVE_POINTS).status, 2)
     for name, text, line in (
         ("an empty script", "", 0),

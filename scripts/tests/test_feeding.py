@@ -4,6 +4,7 @@ with `replay FOLDER --json`, octet for octet."""
 import contextlib
 import functools
 import json
+import pathlib
 import resource
 import select
 import signal
@@ -13,12 +14,12 @@ import threading
 import time
 
 from shared import feed_day
-from shared.checks import expect
+from shared.checks import Failed, expect
 from shared.feed_crowd import Crowd
 from shared.feed_day import FeedPeer, is_row
 from shared.histories import time_line, write_chapters, write_history, write_rows
 from shared.running import EXAMPLES, run
-from shared.serving import wait_until
+from shared.serving import read_status, wait_until
 from shared.station import (
     CLOSE, CLOSE_SHIFT, FLOW, HANG_UP, KNOWN_SITE, LIFT, OPEN, RELEASE, ask_site, command_point,
     read_point, receive_message, report, sign_on,
@@ -32,6 +33,10 @@ LAST_ROWS = 16_384  # that a station can feed
 FEEDS = 64  # at once
 FIRST_LINE, ALIVE, TAKING = 10, 10, 60  # seconds
 LATE = 3  # seconds that the station may be late with what it does by the clock
+PAUSE = 0.05  # seconds that lie between two times at which new rows are sent
+BUSY = 2  # seconds of a busy till
+STOP = FIRST_LINE + 2  # seconds for which a station is stopped
+FORGOTTEN, WORKED = 2_000, 16_000  # rows: more than a small book has, and the feed has room for
 KILLS, RETURNS = 50, 1_000  # of a crowd
 CROWD_ROWS, FLOOD_ROWS = 100, 5_500  # of each of four tills, between two kills
 SLOW_ROWS = 12_000  # whose lines are more than a door's socket holds
@@ -231,6 +236,125 @@ def times_of_a_history():
         expect("the rows", "".join(feed.lines(len(told.splitlines()))), told)
         times = [json.loads(line)["at"] for line in told.splitlines()]
         expect("their times", times[:6], [None] * 3 + [morning] * 2 + [noon])
+
+
+@test
+def new_rows_come_together():
+    """A till makes row after row, each in a round of its own. A peer of the feed gets them in no
+    more pieces than there are pauses of 50 milliseconds, and one piece more. What a busy machine
+    delays may cut a few pieces in two."""
+    with start_feed() as day, day.feed("from 0") as feed:
+        day.say("t1 SignOn")
+        is_over, texts = threading.Event(), []
+        worker = threading.Thread(target=work_by_ones, args=(day, is_over))
+        end_at = (began := time.monotonic()) + BUSY
+        worker.start()
+        while time.monotonic() < end_at:
+            texts.append(feed.socket.recv(1_000_000))
+        waited = time.monotonic() - began
+        is_over.set()
+        worker.join()
+        rows, most = b"".join(texts).count(b"\n"), waited / PAUSE + 1
+        expect(f"{rows} rows are many", rows > 3 * most, True)
+        expect(f"{len(texts)} pieces in {waited:.2f} s", len(texts) <= 1.2 * most, True)
+        expect(f"{len(texts)} pieces are some", len(texts) > most / 5, True)
+
+
+def work_by_ones(day, is_over):
+    """Till 1 opens and closes point 2, and waits for each reply. It rests between, so that the rows
+    of a pause are far fewer than 64 KiB of lines, which would be two pieces."""
+    while not is_over.is_set():
+        day.tell(command_point(1, 1, 2, OPEN), command_point(1, 2, 2, CLOSE))
+        time.sleep(0.001)
+
+
+@test_beside
+def peers_of_a_stopped_station():
+    """A station is stopped for longer than a peer has for its first line. Of that one second
+    counts: two peers that came before are served when it goes on, one whose first line has begun
+    and one that has sent nothing; and one that sends nothing then either is closed some ten seconds
+    later. Rows that a till asked for meanwhile come once to each."""
+    folder = HERE / "stopped"
+    with start_feed("--history", folder) as day, contextlib.ExitStack() as stack:
+        old = stack.enter_context(day.feed("from 0"))
+        day.say(*SALE)
+        first = replay(folder)
+        expect("before the stop", "".join(old.lines(5)), first)
+        begun, silent, mute = (stack.enter_context(connect_feed(day)) for _ in range(3))
+        begun.send("from")
+        wait_until("they are there", lambda: count_links(day) == 4)
+        till = stack.enter_context(day.day.connect())
+        stop_for(day, STOP, lambda: till.sendall(sign_on(2) + command_point(2, 1, 2, OPEN)))
+        went_on = time.monotonic()
+        begun.send(" 0\n")
+        silent.send("from 3\n")
+        for _ in range(2):
+            receive_message(till)
+        wait_until("all stored", lambda: replay(folder).count("\n") == 7)
+        told = replay(folder).splitlines(keepends=True)
+        for name, feed, number in ("old", old, 5), ("begun", begun, 0), ("silent", silent, 3):
+            expect(f"rows of {name}", feed.lines(7 - number), told[number:])
+        expect("nothing is said", mute.rest(), [])
+        waited = time.monotonic() - went_on
+        expect(f"closed after {waited:.1f} s", -1 - LATE < waited - FIRST_LINE < LATE, True)
+        day.say("t1 Lock 1/1")
+        told = replay(folder, 7).splitlines(keepends=True)
+        for name, feed in ("old", old), ("begun", begun), ("silent", silent):
+            expect(f"one more of {name}", feed.lines(1), told)
+
+
+def connect_feed(day):
+    """A peer of the feed that has sent nothing."""
+    return FeedPeer(("127.0.0.1", day.port))
+
+
+def stop_for(day, seconds, call):
+    """The station is stopped for so many seconds, and the call made meanwhile."""
+    day.day.process.send_signal(signal.SIGSTOP)
+    try:
+        stat = pathlib.Path(f"/proc/{day.day.process.pid}/stat")
+        wait_until("it is stopped", lambda: stat.read_text().rsplit(") ", 1)[1][0] == "T")
+        call()
+        time.sleep(seconds)
+    finally:
+        day.day.process.send_signal(signal.SIGCONT)
+
+
+@test
+def no_memory_for_a_row():
+    """A station whose addresses are used up can't keep a row for the feed: it says that the feed
+    has ended. Its peer has a front of the rows and is closed, and nobody listens there. A till goes
+    on and loses no row; the next start has the feed again."""
+    folder, ended = HERE / "memory", "the feed has ended: out of memory\n"
+    with start_feed("--history", folder, site=small_site(), told=ended) as day:
+        day.say("t1 SignOn")
+        with day.feed("from 0") as feed:
+            work_by_fifties(day, FORGOTTEN)
+            got = feed.lines(1 + FORGOTTEN)
+            most = 1024 * read_status(day.day, "VmSize")
+            resource.prlimit(day.day.process.pid, resource.RLIMIT_AS, (most, most))
+            work_by_fifties(day, WORKED)
+            got += feed.rest()
+        with contextlib.suppress(ConnectionRefusedError), connect_feed(day):
+            raise Failed("somebody listens")
+        told = replay(folder)
+        expect("the till's rows", told.count("\n"), 1 + FORGOTTEN + WORKED)
+        expect("a front", told.startswith("".join(got)), True)
+        expect("and not all", len(got) < WORKED, True)
+    with start_feed("--history", folder, site=small_site()) as day:
+        with day.feed(f"from {1 + FORGOTTEN + WORKED}") as feed:
+            day.say(*SALE)
+            behind = replay(folder)[len(told) :].splitlines(keepends=True)
+            expect("at the next start", feed.lines(len(behind)), behind)
+
+
+def work_by_fifties(day, count):
+    """Till 1, which is signed on, opens and closes point 2 so often, fifty times at once."""
+    peer = day.peers[2, 1]
+    for _ in range(count // 50):
+        peer.sendall(toggle(50))
+        for _ in range(50):
+            receive_message(peer)
 
 
 @test_beside

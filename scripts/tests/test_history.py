@@ -20,14 +20,14 @@ import subprocess
 import threading
 import time
 
-from shared.checks import Failed, Skipped, expect
+from shared.checks import NO_FILE, Failed, Skipped, expect, first_line
 from shared.histories import (
     FIRST_LINES, LOCK_FILE, NO_SEAL, SITE_FILE, Told, chapter_path, check_chapters, count_rows,
     expect_looks, find_untold, first_lines, is_notice, is_read, is_sign_off, list_chapters,
     read_rows, retitle, seal_line, split_messages, time_line, whole_lines, without_marks,
     without_token, write_chapters, write_history, write_rows,
 )  # fmt: skip
-from shared.running import run
+from shared.running import run, tell_deaf
 from shared.serving import WAIT, Found, read_status, send_reset, start_day, wait_until
 from shared.station import (
     ACKNOWLEDGE, CLEAR, CLOSE, CLOSE_SHIFT, DISPENSER, FLOW, HANG_UP, KNOWN_SITE, LIFT, LOCK,
@@ -584,7 +584,7 @@ def faults_of_own_sites():
         own.write_bytes(text)
         checked = run(PROGRAM, "check", own)
         if "rows" not in fault:
-            fault = (checked.out.decode() + checked.err).strip()
+            fault = first_line(checked.err).strip()
         for site in (None, KNOWN_SITE):
             expect_refused(f"{text[:20]}", folder, f"{SITE_FILE}: {fault}", site)
         expect("its site file stays", own.read_bytes(), text)
@@ -842,11 +842,11 @@ def mistaken_words():
     path = write_chapter(b"bad\n")
     folder = path.parent
     for port, site, wanted in (
-        ("x", KNOWN_SITE, 2), ("0", "no_such_file", "cannot read no_such_file\n"),
+        ("x", KNOWN_SITE, 2), ("0", "no_such_file", f"cannot read no_such_file: {NO_FILE}\n"),
         ("0", "/dev/null", "fault 72 product\n"), ("0", KNOWN_SITE, "chapter 1 line 1\n"),
     ):  # fmt: skip
         ended = run(PROGRAM, "station", site, "--port", port, "--history", folder)
-        got = ended.status if wanted == 2 else (ended.status, ended.err)
+        got = ended.status if wanted == 2 else (ended.status, first_line(ended.err))
         expect(f"{port} {site}", got, 2 if wanted == 2 else (1, wanted))
     expect("the file", path.read_bytes(), b"bad\n")
     with start_station(write_chapter(FIRST, "first")) as day:
@@ -854,7 +854,7 @@ def mistaken_words():
         expect("before listening", (ended.status, ended.err), (1, "chapter 1 line 1\n"))
         path = write_chapter(DAY_TEXT)
         ended = run(PROGRAM, "station", KNOWN_SITE, "--port", str(day.port), "--history", folder)
-        expect("listening", (ended.status, ended.out, ended.err), (1, b"", "fault 63\n"))
+        expect("listening", ended[:3], (1, b"", tell_deaf(day.port)))
         expect("its file", read_plain(path), DAY_TEXT + OFF_1)
 
 

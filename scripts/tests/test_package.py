@@ -5,6 +5,7 @@ where they are installed."""
 
 import contextlib
 import functools
+import hashlib
 import os
 import re
 import shutil
@@ -15,7 +16,7 @@ import urllib.request
 
 from shared import manuals
 from shared.checks import Skipped, expect
-from shared.running import EXAMPLES, SCRIPTS, run
+from shared.running import EXAMPLES, SCRIPTS, TOP, run
 from shared.serving import WAIT
 from tests.built import PROGRAM
 from tests.suite import make_folder, test
@@ -90,6 +91,7 @@ def wanted_files():
         "usr/share/zsh/vendor-completions/_forecourt",
         "usr/share/fish/vendor_completions.d/forecourt.fish",
         "usr/share/doc/forecourt/copyright",
+        "usr/share/forecourt/build",
         "usr/share/doc/forecourt/examples/till.py",
         SITE,
         *(f"usr/share/man/man1/{page}.1.gz" for page in pages),
@@ -130,6 +132,33 @@ def nothing_is_left_without_a_history():
     ask_dpkg(root, "-P", "forecourt")
     expect("left", files_of(root), [])
     expect("folder", (root / "var/lib/forecourt").exists(), False)
+
+
+@test
+def the_version_says_of_what_it_was_made():
+    """An installed program names its SHA-256, the commit and the kit, as the package's record says;
+    another program beside the same record names its own SHA-256 alone."""
+    need("unshare")
+    root = unpacked()
+    program = root / "usr/bin/forecourt"
+    record = (root / "usr/share/forecourt/build").read_text()
+    digest = hashlib.sha256(program.read_bytes()).hexdigest()
+    commit, kit = (run(*words, cwd=TOP).out.decode().strip()
+                   for words in (("git", "rev-parse", "HEAD"), ("rt", "--version")))  # fmt: skip
+    expect("the record", record, f"sha256 {digest}\ncommit {commit}\nkit {kit}\n")
+    other = HERE / "another_program"
+    other.write_bytes(program.read_bytes() + b"\0")
+    other.chmod(0o755)
+    own = hashlib.sha256(other.read_bytes()).hexdigest()
+    mount = f"mount --bind {root}/usr/share /usr/share && exec "
+    for what, path, wanted in (
+        ("installed", program, record),
+        ("another one", other, f"sha256 {own}\n"),
+    ):
+        told = run("unshare", "--mount", "sh", "-c", f"{mount}{path} --version")
+        if told.status != 0 and not told.out:
+            raise Skipped(f"no mounts here: {told.err.strip()}")
+        expect(what, told.out.decode().split("\n", 1)[1], wanted)
 
 
 @test

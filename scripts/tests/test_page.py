@@ -3,14 +3,17 @@
 Over plain HTTP: what each path and method is answered, how many are served and for how long, and
 peers that mean no good; what `site.json` tells beside the history and the commands that read it.
 In a headless Chromium: what the page says of a day, step after step, and how it looks on screens
-and on a telephone. Without a Chromium those tests are skipped."""
+and on a telephone; some of it in Firefox, too. Without these browsers those tests are skipped."""
 
 import base64
+import collections
 import concurrent.futures
 import contextlib
 import datetime
+import decimal
 import functools
 import hashlib
+import itertools
 import json
 import pathlib
 import re
@@ -22,17 +25,18 @@ import statistics
 import threading
 import time
 
-from shared import forecourts, page_day, serving
+from shared import forecourts, page_day, page_pictures, random_figures, serving
 from shared.browser import (
     SCREEN, SOON, TELEPHONE, WIDE, expect_words, find_browser, open_page, read_tile, start_browser,
 )  # fmt: skip
 from shared.checks import Failed, Skipped, expect
+from shared.firefox import find_firefox, start_firefox
 from shared.histories import (
     NO_SEAL, count_rows, find_last_seal, read_chapters, retitle, time_line, write_chapters,
     write_history, write_rows,
 )  # fmt: skip
 from shared.page_day import connect, end_day, read_answer, write_request
-from shared.running import EXAMPLES, SCRIPTS, compile_c, run
+from shared.running import EXAMPLES, SCRIPTS, compile_c, run, tell_deaf
 from shared.serving import list_addresses, wait_until
 from shared.station import (
     CLEAR, CLOSE, CLOSE_SHIFT, DISPENSER, FIVE_POINTS, FLOW, HANG_UP, KNOWN_SITE, LIFT, LOCK, MONEY,
@@ -41,7 +45,7 @@ from shared.station import (
     receive_message, report, sign_on, write_report,
 )  # fmt: skip
 from tests.built import PROGRAM
-from tests.suite import make_folder, test, test_beside
+from tests.suite import make_folder, start_chance, test, test_beside
 
 HERE = make_folder()
 start_page = functools.partial(page_day.start_page, PROGRAM)
@@ -55,6 +59,7 @@ ONLINE = 0x60  # what a dispenser says that is there
 MOST_IN_BOOK = 1_024  # rows
 # Seconds after which a silent peer is left: 10 to 12, and one for a machine that is busy.
 LEFT_AFTER = (10, 13)
+BUFFERED = 40  # seconds in which the system's buffers take answers, ten a second
 SEALED_AFTER = 1.1  # seconds since the last seal, after which a row is sealed at once
 MILLISECOND = datetime.timedelta(milliseconds=1)
 READS = 2_000  # of a till, beside which the page is asked
@@ -130,16 +135,17 @@ def asks_nothing_of_others():
 
 
 # The members of site.json, and of what is in it.
-SITE_MEMBERS = ["at", "connections", "gaps", "opened", "points", "products", "rows", "seal",
-                "sessions", "shift", "tills", "transactions", "unpaid cents"]  # fmt: skip
+SITE_MEMBERS = ["at", "calling", "connections", "due cents", "gaps", "jumps", "name", "opened",
+                "points", "products", "rows", "seal", "sessions", "shift", "shift products", "sold",
+                "tills", "transactions", "unpaid cents"]  # fmt: skip
 POINT = ["dispenser connected", "fuelling", "holder", "nozzle", "nozzles", "number", "product",
          "state", "state name"]  # fmt: skip
-FUELLING = ["cents", "ending", "millilitres", "mills", "prepaid", "preset cents",
+FUELLING = ["cents", "ending", "left cents", "millilitres", "mills", "prepaid", "preset cents",
             "preset millilitres", "test"]  # fmt: skip
 PRODUCT = ["adjusted", "cleared", "locked", "metered", "mills", "name", "number", "payable",
            "running"]  # fmt: skip
-TRANSACTION = ["cents", "millilitres", "mills", "number", "point", "prepaid", "product", "shift",
-               "status", "till"]  # fmt: skip
+TRANSACTION = ["back cents", "cents", "due cents", "millilitres", "mills", "number", "point",
+               "prepaid", "product", "shift", "status", "till"]  # fmt: skip
 
 
 @test
@@ -153,6 +159,7 @@ def members_of_the_site():
         expect("in order, without spaces", text, again)
         expect("members", list(site), SITE_MEMBERS)
         for name, members in (("points", POINT), ("products", PRODUCT),
+                              ("shift products", ["cents", "cleared", "drawn", "number"]),
                               ("sessions", ["node", "quiet seconds", "since", "subnet"]),
                               ("tills", ["cents", "clears", "number", "signed on"]),
                               ("transactions", TRANSACTION)):  # fmt: skip
@@ -373,7 +380,8 @@ def expect_fast(page):
 @test_beside
 def silent_peers():
     """Who says nothing, who says an octet each second, who is silent behind an answer and who takes
-    no answer is left after ten to twelve seconds; who asks now and then stays."""
+    no answer is left after ten to twelve seconds; who asks now and then stays. For who takes none
+    the system takes answers, ten a second, until its buffers are full."""
     kinds = (say_nothing, say_an_octet_each_second, fall_silent, take_nothing)
     pool = concurrent.futures.ThreadPoolExecutor(len(kinds))
     with start_page() as page, pool, connect(page.port) as steady:
@@ -384,7 +392,8 @@ def silent_peers():
         least, most = LEFT_AFTER
         for kind, end in zip(kinds, ends):
             since_it_came, since_it_is_silent = end.result()
-            if since_it_came < least or since_it_is_silent > most:
+            buffered = BUFFERED if kind is take_nothing else 0
+            if since_it_came < least or since_it_is_silent > most + buffered:
                 raise Failed(f"{kind.__name__}: left after {end.result()} seconds")
 
 
@@ -527,10 +536,10 @@ def read_state(day):
 def rows_of_the_history():
     """While a till asks as fast as it is answered, no more rows are told than the history
     has lines."""
-    folder = HERE / "stored"
+    folder, count = HERE / "stored", 10 * READS  # the page answers ten times a second
     with start_page("--history", str(folder)) as page, connect(page.port) as peer:
         asking = threading.Thread(
-            target=lambda: page.tell(*(command_point(1, n % 32, 1, OPEN) for n in range(READS)))
+            target=lambda: page.tell(*(command_point(1, n % 32, 1, OPEN) for n in range(count)))
         )
         asking.start()
         told = 0
@@ -542,8 +551,8 @@ def rows_of_the_history():
                 raise Failed(f"{rows} rows are told, and {lines} are in the history")
             told += 1
         asking.join()
-        expect("rows", page.site()["rows"], READS + 1)
-        expect("lines", count_rows(read_chapters(folder)), READS + 1)
+        expect("rows", page.site()["rows"], count + 1)
+        expect("lines", count_rows(read_chapters(folder)), count + 1)
         if told < 10:
             raise Failed(f"the page was asked {told} times")
 
@@ -603,6 +612,88 @@ def read_json(page, path):
     return json.loads(body)
 
 
+def read_shifts(page, query=""):
+    """The shifts that are answered, each a line."""
+    status, fields, body = page.get(f"/shifts{query}")
+    expect("the answer", (status, fields["content-type"]), (200, "application/x-ndjson"))
+    return [json.loads(line) for line in body.decode().splitlines()]
+
+
+@test
+def shifts_from_a_number_on():
+    """`/shifts` has the lines of `shifts --json`: from the shift on that is asked for, at most 64;
+    another query is refused. Without a history no time is known."""
+    folder = HERE / "many shifts"
+    with start_page("--history", str(folder)) as page:
+        page.tell(*[ask_site(1, CLOSE_SHIFT, 0)] * 69)
+        told = run(PROGRAM, "shifts", folder, "--json").out.decode().splitlines()
+        shifts = [json.loads(line) for line in told]
+        expect("all", [shift["shift"] for shift in shifts], [*range(1, 71)])
+        for first in (1, 2, 7, 8, 69, 70, 71, 999):
+            wanted = shifts[first - 1 : first + 63]
+            expect(f"from {first}", read_shifts(page, f"?from={first}"), wanted)
+        expect("without a query", read_shifts(page), shifts[:64])
+        for query in ("from=0", "from=1000", "from=01", "from=+1", "from=", "shift=1", "x", ""):
+            status, _, body = page.get(f"/shifts?{query}")
+            expect(query, (status, body), (400, b"ask for /shifts or /shifts?from=N\n"))
+        expect("its HEAD", page.get("/shifts", "HEAD")[::2], (200, b""))
+    with start_page() as page:
+        page.tell(ask_site(1, CLOSE_SHIFT, 0))
+        times = {(shift["opened"], shift["closed"]) for shift in read_shifts(page)}
+        expect("no times", times, {(None, None)})
+
+
+def expect_moments(page, folder, calling, sold):
+    """These points call, and these sales are unpaid, each since the time of its row."""
+    site = page.site()
+    rows = run(PROGRAM, "replay", folder, "--json").out.decode().splitlines()
+    times = {(row["event"], row["reply"].split("{")[0]): row["at"] for row in map(json.loads, rows)}
+    wanted = [{"point": point, "since": times[f"Lift {point} 1@{reading}", "Calling"]}
+              for point, reading in calling]  # fmt: skip
+    expect("calling", site["calling"], wanted)
+    wanted = [{"shift": shift, "point": point, "number": number,
+               "at": times[f"HangUp {point} 1@{reading}", "Sold"]}
+              for shift, point, number, reading in sold]  # fmt: skip
+    expect("sold", site["sold"], wanted)
+    names = [{name: sale[name] for name in ("shift", "point", "number")}
+             for sale in site["transactions"]]  # fmt: skip
+    expect("as the transactions", [{**name, "at": one["at"]} for name, one in
+                                   zip(names, site["sold"])], site["sold"])  # fmt: skip
+
+
+def list_sale(point, begin, end):
+    return (command_point(1, 0, point, RELEASE), report(point, 0, LIFT, begin),
+            report(point, 0, HANG_UP, end))  # fmt: skip
+
+
+@test
+def since_when_it_is_so():
+    """`calling` and `sold` of `site.json`: since when points call, and unpaid sales were sold, also
+    of an earlier shift and behind a start. What is cleared, or hung up, isn't there any more."""
+    folder = HERE / "moments"
+    with start_page("--history", str(folder)) as page:
+        for point in (1, 2):
+            page.tell(command_point(1, 0, point, OPEN))
+        page.tell(*list_sale(1, 0, 5_000), *list_sale(2, 0, 6_000))
+        page.tell(ask_site(1, CLOSE_SHIFT, 0), *list_sale(1, 5_000, 9_000))
+        page.tell(report(2, 0, LIFT, 6_000))
+        sold = [(1, 1, 1, 5_000), (1, 2, 1, 6_000), (2, 1, 1, 9_000)]
+        expect_moments(page, folder, [(2, 6_000)], sold)
+        page.say("t1 Lock 1/1/1", "t1 Clear 1/1/1")
+        expect_moments(page, folder, [(2, 6_000)], sold[1:])
+    with start_page("--history", str(folder)) as page:
+        expect_moments(page, folder, [(2, 6_000)], sold[1:])
+        page.tell(report(2, 0, HANG_UP, 6_000))
+        page.tell(command_sale(1, 0, 1, 1, LOCK), command_sale(1, 0, 1, 1, CLEAR))
+        expect_moments(page, folder, [], sold[1:2])
+    with start_page() as page:
+        page.tell(command_point(1, 0, 1, OPEN), *list_sale(1, 0, 5_000), report(1, 0, LIFT, 5_000))
+        site = page.site()
+        expect("no times", (site["calling"], site["sold"]),
+               ([{"point": 1, "since": None}],
+                [{"shift": 1, "point": 1, "number": 1, "at": None}]))  # fmt: skip
+
+
 @test
 def whether_rows_can_be_added():
     with start_page() as page:
@@ -628,19 +719,25 @@ def figures_for_programs():
             "witsomar_rows": 7, "witsomar_kept_rows": 7,
             "witsomar_connections": 2,
             'witsomar_sessions{kind="till"}': 1, 'witsomar_sessions{kind="dispenser"}': 1,
-            'witsomar_points{state="idle"}': 2,
+            'witsomar_points{state="idle"}': 2, "witsomar_points_connected": 1,
             "witsomar_unpaid_transactions": 1, "witsomar_unpaid_cents": sale["cents"],
             "witsomar_shift": 1, "witsomar_shifts_left": 998,
             "witsomar_open_gaps": 0, 'witsomar_refused_rows{refusal="1"}': 0,
         }  # fmt: skip
         for name, value in wanted.items():
             expect(name, found.get(name), value)
-        points = {name: n for name, n in found.items() if name.startswith("witsomar_points")}
+        points = {name: n for name, n in found.items() if name.startswith("witsomar_points{")}
         expect("nine states", len(points), len(STATES))
         expect("each point once", sum(points.values()), len(site["points"]))
         if shutil.which("promtool"):
             checked = run("promtool", "check", "metrics", given=body)
             expect("promtool", (checked.status, checked.err), (0, ""))
+        with connect(page.day.port) as other:
+            other.sendall(report(1, 0, FLOW, 10_000))
+            receive_message(other)
+            found = read_samples(page.get("/metrics")[2].decode())
+        names = ('witsomar_sessions{kind="dispenser"}', "witsomar_points_connected")
+        expect("two sessions of one dispenser", [found[name] for name in names], [2, 1])
 
 
 def read_samples(text):
@@ -656,7 +753,7 @@ def read_samples(text):
 def figures_of_the_station():
     """What `/metrics` has beside the book: the peers of the feed, the chapters, how old the last
     seal is, how long rows took to be stored, and the version that the program says."""
-    version = run(PROGRAM, "--version").out.decode().split()[-1]
+    version = run(PROGRAM, "--version").out.decode().split()[1]
     with start_page("--feed", "0", till=None) as page:
         found = read_samples(page.get("/metrics")[2].decode())
         expect("the version", found.get(f'witsomar_build_info{{version="{version}"}}'), 1)
@@ -741,7 +838,8 @@ def read_seal(page, folder):
 def name_sale(point, product, mills, cents, **more):
     """Transaction 1 of a point, as the site tells it."""
     wanted = {"shift": 1, "point": point, "number": 1, "product": product, "mills": mills,
-              "cents": cents, "prepaid": None, "status": "payable", "till": None}  # fmt: skip
+              "cents": cents, "due cents": cents, "back cents": 0, "prepaid": None,
+              "status": "payable", "till": None}  # fmt: skip
     return {**wanted, **more}
 
 
@@ -825,6 +923,83 @@ def open_gaps():
         expect("after another start", read_gaps(page), ([], 0, 2))
 
 
+@test
+def jumps_of_meters():
+    """`site.json` tells each nozzle whose meter was replaced, in the order of points and nozzles:
+    how often, and how far its readings rose and fell thereby; no refused replacement counts. So
+    too once the book has forgotten the rows, and after a start; the difference is that of
+    `meters`."""
+    folder, site = HERE / "jumps", HERE / "jumps.toml"
+    site.write_text(f"rows = {MOST_IN_BOOK}\n{KNOWN_SITE.read_text()}")
+    words = ("--history", str(folder))
+    replaced = b"""t1 ReplaceMeter 2 1@300
+t1 ReplaceMeter 1 2@45500
+t1 ReplaceMeter 1 2@44000
+t1 Open 1
+t1 ReplaceMeter 1 2@99000
+"""
+    wanted = [
+        {"point": 1, "nozzle": 2, "replaced": 2, "raised": 45_500 - 1_000, "lowered": 1_500},
+        {"point": 2, "nozzle": 1, "replaced": 1, "raised": 300, "lowered": 0},
+    ]
+    with start_page(*words, site=site) as page:
+        expect("none", page.site()["jumps"], [])
+        lines = run(PROGRAM, "spell", given=replaced).out.decode().splitlines()
+        told = [is_accepted(page.tell(bytes.fromhex(line))) for line in lines]
+        expect("all but the last are accepted", told, [True, True, True, True, False])
+        expect("two nozzles", page.site()["jumps"], wanted)
+        fill_book(page)
+        expect("once the rows are forgotten", page.site()["jumps"], wanted)
+    with start_page(*words, site=site, till=None) as page:
+        expect("after a start", page.site()["jumps"], wanted)
+        table = run(PROGRAM, "meters", folder, "--json").out.decode().splitlines()
+        jumps = [{name: x[name] for name in ("point", "nozzle", "replaced", "jumps")}
+                 for x in map(json.loads, table) if x["replaced"]]  # fmt: skip
+        expect("as meters says", jumps, [
+            {"point": x["point"], "nozzle": x["nozzle"], "replaced": x["replaced"],
+             "jumps": x["raised"] - x["lowered"]} for x in wanted
+        ])  # fmt: skip
+
+
+@test
+def name_of_a_site():
+    """`site.json` has the name that the station is given; without one it has none."""
+    for name in ("Am Ring 5 \u00a7 \"Nord\"", "", None):
+        words = () if name is None else ("--name", name)
+        with start_page(*words) as page:
+            expect(f"the name {name}", page.site()["name"], name)
+
+
+@test
+def dues_of_prepaid_sales():
+    """Of each unpaid transaction `site.json` tells what is still due or goes back, what is due in
+    all, and what is left of a prepaid fuelling; and the open shift's litres and money by
+    product."""
+    with start_page() as page:
+        page.tell(command_point(1, 0, 1, OPEN), prepay(1, 3_000))
+        page.tell(report(1, 0, LIFT, 0), report(1, 0, FLOW, 12_000))
+        flows = page.site()["points"][0]["fuelling"]
+        expect("left", (flows["cents"], flows["left cents"]), (1_800, 1_200))
+        page.tell(report(1, 0, HANG_UP, 22_000))
+        [sale] = page.site()["transactions"]
+        expect("more than was prepaid", (sale["cents"], sale["due cents"], sale["back cents"]),
+               (3_300, 300, 0))  # fmt: skip
+        page.tell(prepay(1, 3_000), report(1, 0, LIFT, 22_000), report(1, 0, HANG_UP, 40_000))
+        told = page.site()
+        dues = [(x["cents"], x["due cents"], x["back cents"]) for x in told["transactions"]]
+        expect("and less", dues, [(3_300, 300, 0), (2_700, 0, 300)])
+        expect("in all", (told["due cents"], told["unpaid cents"]), (300, 6_000))
+        figures = [(x["cleared"], x["cents"]) for x in told["shift products"]]
+        expect("nothing cleared", figures, [(0, 0), (0, 0)])
+        page.tell(command_sale(1, 0, 1, 1, CLEAR))
+        told = page.site()
+        figures = [
+            (x["number"], x["cleared"], x["cents"], x["drawn"]) for x in told["shift products"]
+        ]
+        expect("cleared in the shift", figures, [(1, 22_000, 3_300, 0), (2, 0, 0, 0)])
+        expect("nothing is due", (told["due cents"], told["unpaid cents"]), (0, 2_700))
+
+
 def read_gaps(page):
     """The open gaps of `site.json`; how many `/metrics` has, and how many rows refused with 17."""
     found = read_samples(page.get("/metrics")[2].decode())
@@ -865,9 +1040,12 @@ def beside_the_commands():
         site = page.site()
         text = read_chapters(folder)
         sales = run(PROGRAM, "sales", file, "--json", given=text).out.decode().splitlines()
-        members = sorted(site["transactions"][0])
+        members = set(site["transactions"][0]) - {"due cents", "back cents"}
         unpaid = [{name: sale[name] for name in members} for sale in map(json.loads, sales)
                   if sale["status"] != "cleared"]  # fmt: skip
+        for sale in unpaid:
+            left = sale["cents"] - (sale["prepaid"] or 0)
+            sale["due cents"], sale["back cents"] = max(left, 0), max(-left, 0)
         expect("unpaid transactions", site["transactions"], unpaid)
         told = json.loads(run(PROGRAM, "report", file, "--json", given=text).out)
         lines = count_rows(read_chapters(folder))
@@ -931,9 +1109,9 @@ def wrong_words():
     with start_page("--history", str(folder)) as page:
         for taken in (page.port, page.day.port):
             end = run(PROGRAM, "station", KNOWN_SITE, "--port=0", f"--page={taken}")
-            expect("a taken port", end, (1, b"", "fault 63\n"))
+            expect("a taken port", end, (1, b"", tell_deaf(taken)))
         end = run(PROGRAM, "station", KNOWN_SITE, "--port", str(page.port), "--page=0")
-        expect("the station's port is taken", end, (1, b"", "fault 63\n"))
+        expect("the station's port is taken", end, (1, b"", tell_deaf(page.port)))
 
 
 def expect_undisturbed(page):
@@ -953,16 +1131,22 @@ def read_kilobytes(day):
 # ---- in a browser
 
 
-def in_browser(function):
-    """A test that needs a browser."""
+def needs(find, name):
+    """A test that needs a browser of this name."""
 
-    @functools.wraps(function)
-    def call():
-        if not find_browser():
-            raise Skipped("there is no Chromium")
-        function()
+    def mark(function):
+        @functools.wraps(function)
+        def call(*seeds):
+            if not find():
+                raise Skipped(f"there is no {name}")
+            function(*seeds)
 
-    return call
+        return call
+
+    return mark
+
+
+in_browser, in_firefox = needs(find_browser, "Chromium"), needs(find_firefox, "Firefox")
 
 
 HEAD = "[document.getElementById('state').textContent, document.title]"
@@ -983,35 +1167,48 @@ def expect_head(browser, wanted):
 def a_day_at_a_point():
     """A point calls, is released, fuels, sells, is locked and cleared; the page says each step
     within two seconds, and counts who calls and what is unpaid."""
+    with start_page("--history", HERE / "a-day") as page, start_browser() as browser:
+        expect_steps(page, browser)
+        expect("complaints of the browser", browser.complaints, [])
+
+
+@test
+@in_firefox
+def a_day_in_firefox():
+    """The same steps in Firefox."""
+    with start_page("--history", HERE / "a-day-in-firefox") as page, start_firefox() as browser:
+        expect_steps(page, browser)
+
+
+def expect_steps(page, browser):
+    """The page says each step of a day at a point within two seconds."""
     released = encode((SITE, 1), (TILL, 1), WRITE, 4, address_point(1),
                       [(RELEASE, b""), (MONEY, (2_000).to_bytes(4, "big"))])  # fmt: skip
-    with start_page() as page, start_browser() as browser:
-        browser.open(page.url, *SCREEN)
-        wait_until("the page", lambda: browser.evaluate(TILES))
-        expect_words(browser, 1, "1", "closed")
-        page.tell(command_point(1, 2, 1, OPEN))
-        expect_words(browser, 1, "idle")
-        page.tell(report(1, 3, LIFT, 0))
-        expect_words(browser, 1, "calling", "AGE", "1 diesel")
-        expect_head(browser, "1 calling, 0 unpaid")
-        page.tell(released)
-        expect_words(browser, 1, "started", "for 20.00", "1 diesel", "held by till 1")
-        page.tell(report(1, 3, FLOW, 4_000))
-        expect_words(browser, 1, "fuelling", "4.00 l", "6.00")
-        page.tell(report(1, 3, HANG_UP, 10_000))
-        expect_words(browser, 1, "idle", "1/1", "10.00 l", "15.00", "diesel", "payable AGE")
-        expect_head(browser, "0 calling, 1 unpaid 15.00")
-        page.tell(command_sale(1, 5, 1, 1, LOCK))
-        expect_words(browser, 1, "1/1", "till 1 is collecting")
-        page.tell(ask_site(1, CLOSE_SHIFT, 7))
-        expect_words(browser, 1, "1/1/1", "till 1 is collecting")
-        till = "document.querySelector('#tills span').textContent"
-        expect("the till", browser.evaluate(till), "till 1 on, 0 for 0.00")
-        page.tell(ask(1, WRITE, 6, SALE_OF_SHIFT_1, (CLEAR, b"")))
-        wait_until("cleared", lambda: "1/1/1" not in read_tile(browser, 1))
-        expect_head(browser, "0 calling, 0 unpaid")
-        expect("the till", browser.evaluate(till), "till 1 on, 1 for 15.00")
-        expect("complaints of the browser", browser.complaints, [])
+    browser.open(page.url, *SCREEN)
+    wait_until("the page", lambda: browser.evaluate(TILES))
+    expect_words(browser, 1, "1", "closed")
+    page.tell(command_point(1, 2, 1, OPEN))
+    expect_words(browser, 1, "idle")
+    page.tell(report(1, 3, LIFT, 0))
+    expect_words(browser, 1, "calling", "AGE", "1 diesel")
+    expect_head(browser, "1 calling, 0 unpaid")
+    page.tell(released)
+    expect_words(browser, 1, "started", "for 20.00", "1 diesel", "held by till 1")
+    page.tell(report(1, 3, FLOW, 4_000))
+    expect_words(browser, 1, "fuelling", "4.00 l", "6.00")
+    page.tell(report(1, 3, HANG_UP, 10_000))
+    expect_words(browser, 1, "idle", "1/1", "10.00 l", "15.00", "diesel", "payable AGE")
+    expect_head(browser, "0 calling, 1 unpaid 15.00")
+    page.tell(command_sale(1, 5, 1, 1, LOCK))
+    expect_words(browser, 1, "1/1", "till 1 is collecting")
+    page.tell(ask_site(1, CLOSE_SHIFT, 7))
+    expect_words(browser, 1, "1/1/1", "till 1 is collecting")
+    till = "document.querySelector('#tills span').textContent"
+    expect("the till", browser.evaluate(till), "till 1 on, 0 for 0.00")
+    page.tell(ask(1, WRITE, 6, SALE_OF_SHIFT_1, (CLEAR, b"")))
+    wait_until("cleared", lambda: "1/1/1" not in read_tile(browser, 1))
+    expect_head(browser, "0 calling, 0 unpaid")
+    expect("the till", browser.evaluate(till), "till 1 on, 1 for 15.00")
 
 
 def prepay(point, cents, token=0):
@@ -1025,7 +1222,7 @@ def prepay(point, cents, token=0):
 def what_was_prepaid():
     """Of a prepaid sale the page says what was prepaid, and what is due of it or goes back, not
     what it costs; the head counts what is due alone. While it flows the page says what is left."""
-    with start_page() as page, start_browser() as browser:
+    with start_page("--history", HERE / "prepaid") as page, start_browser() as browser:
         browser.open(page.url, *SCREEN)
         wait_until("the page", lambda: browser.evaluate(TILES))
         page.tell(*(command_point(1, 0, point, OPEN) for point in (1, 2, 3)))
@@ -1065,32 +1262,113 @@ def a_test_at_a_point():
         expect("money", re.findall(r"\d+\.\d\d(?! l)", read_tile(browser, 1)), [])
 
 
-@test
+AGES = """['.s4 .age', '.by'].map(one => {
+    const found = document.querySelector('#points').querySelector(one);
+    return found ? found.textContent.replace('payable ', '') : '';
+})"""
+
+
+def count_seconds(text):
+    """An age of less than an hour; none is less than any."""
+    minutes, seconds = text.split(":") if text else (0, -1)
+    return 60 * int(minutes) + int(seconds)
+
+
+def expect_ages(browser, least):
+    """Within two seconds point 1 says that it has called, and sold, for at least so many seconds;
+    returns how many these are."""
+    end = time.monotonic() + SOON
+    while min(ages := [*map(count_seconds, browser.evaluate(AGES))]) < least:
+        if time.monotonic() > end:
+            raise Failed(f"it says {browser.evaluate(AGES)}, wanted {least} seconds or more")
+        time.sleep(serving.LOOK)
+    return ages
+
+
+@test_beside
 @in_browser
 def how_long_it_calls():
-    """The page counts how long a point has been calling, as far as it saw it, and anew when it
-    calls again. How it writes ages and litres."""
-    said = "document.querySelector('.s4 .age')?.textContent ?? ''"
-    with start_page() as page, start_browser() as browser:
-        browser.open(page.url, *SCREEN)
-        wait_until("the page", lambda: browser.evaluate(TILES))
-        page.tell(command_point(1, 0, 1, OPEN), report(1, 0, LIFT, 0))
-        young, older = ("0:00", "0:01"), ("0:03", "0:04")  # an answer a second, or so
-        wait_until("it calls", lambda: browser.evaluate(said) in young)
+    """How long a point has been calling, and how long ago a sale was made, is by the station's
+    clock: a page that is loaded later says the same. A call that is over counts no more. Where the
+    station doesn't tell a time it is as far as the page saw it. How it writes ages and litres."""
+    with start_page("--history", HERE / "calling") as page, start_browser() as browser:
         begun = time.monotonic()
-        wait_until("it has called for a while", lambda: browser.evaluate(said) in older)
-        passed = time.monotonic() - begun
-        expect(f"{passed:.1f} seconds", 1.5 < passed < 4.5, True)
-        page.tell(report(1, 0, HANG_UP, 0))
-        expect_words(browser, 1, "idle")
-        page.tell(report(1, 0, LIFT, 0))
-        wait_until("it calls again", lambda: browser.evaluate(said) in young)
+        page.tell(command_point(1, 0, 1, OPEN), command_point(1, 0, 1, RELEASE))
+        page.tell(report(1, 0, LIFT, 0), report(1, 0, HANG_UP, 10_000))
+        page.tell(report(1, 0, LIFT, 10_000))
+        time.sleep(4.5)
+        for _ in range(2):  # it is loaded again
+            passed, opened = int(time.monotonic() - begun), time.monotonic()
+            browser.open(page.url, *SCREEN)
+            wait_until("the page", lambda: browser.evaluate(TILES))
+            ages = expect_ages(browser, 4)
+            expect(f"{ages}", passed <= max(ages) <= time.monotonic() - begun, True)
+        expect("its last second", expect_ages(browser, max(ages) + 1)[0] > ages[0], True)
+        for gone in ("{...last, calling: null, sold: null}", "{...last, at: null}",
+                     "(({calling, sold, ...rest}) => rest)(last)"):  # fmt: skip
+            ages = [*map(count_seconds, browser.evaluate(f"show({gone}), {AGES}"))]
+            expect(f"{gone}: {ages}", 0 <= max(ages) <= time.monotonic() - opened, True)
+        page.tell(report(1, 0, HANG_UP, 10_000))
+        expect_words(browser, 1, "idle", "payable AGE")
+        page.tell(report(1, 0, LIFT, 10_000))
+        expect_words(browser, 1, "calling", "AGE")
+        expect("it calls anew", count_seconds(browser.evaluate(AGES)[0]) <= SOON, True)
         length = "[0, 59999, 60000, 3599999, 3600000, 90000000].map(length)"
         expect("lengths", browser.evaluate(length),
                ["0:00", "0:59", "1:00", "59:59", "1 h 0 m", "25 h 0 m"])  # fmt: skip
         volumes = [4, 5, 17_054, 17_055, 17_065, 1_005, 999_999_999_999]
         said = browser.evaluate(f"{volumes}.map(litres)")
         expect("litres", said, [f"{round_litres(volume):.2f}" for volume in volumes])
+
+
+@test
+@in_browser
+def figures_as_the_program_prints_them(seed):
+    """The page's script writes litres and money as `report --human` and `next` print them, but for
+    spaces between thousands: 100,000 figures of random days, of all lengths. Litres with two
+    digits are those with three, half a hundredth rounded up."""
+    chance = start_chance(seed, "figures")
+    with concurrent.futures.ThreadPoolExecutor() as pool:
+        made = [pool.submit(print_figures, n, random_figures.draw_site(chance), draw(chance))
+                for n, draw in enumerate(DRAWN)]  # fmt: skip
+        pairs = [one.result() for one in made]
+    litres, money = (random_figures.join(kind) for kind in zip(*pairs))
+    expect("figures", len(litres.values) + len(money.values) >= 100_000, True)
+    with start_page(till=None) as page, start_browser() as browser:
+        browser.open(page.url, *SCREEN)
+        wait_until("the page", lambda: browser.evaluate(TILES))
+        apart = [THOUSANDS.sub("\u00a0", text) for text in litres.texts]
+        expect_written(browser, "exact", litres.values, apart)
+        short = [str(decimal.Decimal(text).quantize(decimal.Decimal("0.01"), "ROUND_HALF_UP"))
+                 for text in litres.texts]  # fmt: skip
+        expect_written(browser, "litres", litres.values, short)
+        expect_written(browser, "money", money.values, money.texts)
+        apart = [THOUSANDS.sub("\u00a0", text) for text in money.texts]
+        expect_written(browser, "cents => spaced(money(cents))", money.values, apart)
+
+
+REPORTS, NEXTS = 920, 400  # days: 55 figures of each report, 128 of each `next`
+DRAWN = [random_figures.draw_day] * REPORTS + [random_figures.draw_unpaid] * NEXTS
+THOUSANDS = re.compile(r"(?<=\d)(?=(?:\d{3})+\.)")  # where they are parted
+
+
+def print_figures(number, site, rows):
+    """The figures of litres and of money that the program prints of a day for people."""
+    folder = HERE / f"figures-{number}"
+    folder.mkdir(exist_ok=True)
+    file = folder / "site.toml"
+    file.write_text(site)
+    if number < REPORTS:
+        return random_figures.print_report(PROGRAM, file, rows)
+    none = random_figures.Figures([], [])
+    return none, random_figures.print_obstacles(PROGRAM, file, rows, folder / "history")
+
+
+def expect_written(browser, function, values, texts):
+    """The page's function writes the values so."""
+    said = browser.evaluate(f"{values}.map(value => ({function})(value))")
+    wrong = [one for one in zip(values, said, texts) if one[1] != one[2]]
+    expect(f"{function}: wrong", wrong[:3], [])
 
 
 @test
@@ -1179,6 +1457,37 @@ LOST_TILE = """[...document.querySelectorAll('#points section')].map(tile => {
 MOST_HUE = 24  # of 255, between the channels of what is called grey
 
 
+def expect_pictures(count):
+    """The page of so many points is drawn into `out/pictures`, on each screen, light and dark: each
+    is a PNG as large as its screen, and no two are alike."""
+    found = set()
+    for file, size in page_pictures.draw(PROGRAM, SCRIPTS.parent / "out/pictures", count):
+        octets = file.read_bytes()
+        expect(file.name, octets[:8], b"\x89PNG\r\n\x1a\n")
+        drawn = tuple(int.from_bytes(octets[at : at + 4], "big") for at in (16, 20))
+        expect(f"the size of {file.name}", drawn, size)
+        found.add(octets)
+    expect("pictures", len(found), 6)
+
+
+@test_beside
+@in_browser
+def pictures_of_few_points():
+    expect_pictures(5)
+
+
+@test_beside
+@in_browser
+def pictures_of_twelve_points():
+    expect_pictures(12)
+
+
+@test_beside
+@in_browser
+def pictures_of_64_points():
+    expect_pictures(64)
+
+
 @test_beside
 @in_browser
 def a_silent_station():
@@ -1240,6 +1549,118 @@ def who_is_connected_on_the_page():
             browser.evaluate("document.getElementById('to-points').click()")
             wait_until("pumps again", lambda: browser.evaluate(SEEN) == ["points", "foot"])
         expect_words(browser, 2, "no dispenser")
+
+
+@test_beside
+@in_browser
+def jumps_on_the_page():
+    """The second view says of a nozzle how often its meter was replaced, and how far its readings
+    jumped; and the litres and money of the open shift by product, with what tests drew."""
+    with start_page("--name", "Am Ring") as page, start_browser() as browser:
+        words = b"t1 ReplaceMeter 1 1@45500\nt1 ReplaceMeter 1 1@40500\nt1 ReplaceMeter 1 2@0\n"
+        for line in run(PROGRAM, "spell", given=words).out.decode().splitlines():
+            expect("accepted", is_accepted(page.tell(bytes.fromhex(line))), True)
+        page.tell(command_point(1, 0, 2, OPEN), command_point(1, 0, 2, TEST_RELEASE))
+        page.tell(report(2, 0, LIFT, 0), report(2, 0, HANG_UP, 5_000))
+        browser.open(page.url + "#history", *SCREEN)
+        lines = "[...document.querySelectorAll('#meters tr')].map(x => x.cells[3].innerText)"
+        wait_until("two jumps", lambda: browser.evaluate(lines)[:2] == [
+            "40.500\nreplaced 2 times,\n+40.500", "0.000\nreplaced once,\n-1.000"])  # fmt: skip
+        expect("no others", [x for x in browser.evaluate(lines)[2:] if "replaced" in x], [])
+        expect("whose", browser.evaluate("document.querySelector('h1').textContent"), "Am Ring")
+        sold = "[...document.querySelectorAll('#sold td')].map(x => x.textContent)"
+        expect("the shift", browser.evaluate(sold),
+               ["1 diesel", "0.000\n5.000 in tests", "0.00", "2 petrol", "0.000", "0.00"]
+        )  # fmt: skip
+
+
+CLOSED = """[...document.querySelectorAll('#closed tbody')].map(shift =>
+    [...shift.rows].map(line => [...line.cells].map(cell => cell.textContent)))"""
+ASKED = """performance.getEntriesByType('resource').map(one => one.name)
+    .filter(name => name.includes('/shifts')).map(name => name.split('/').pop())"""
+MANY_SHIFTS = 70
+
+
+def make_many_shifts():
+    """A site and its day: so many closed shifts, in each of which a sale is cleared and another one
+    stays unpaid, which the next shift clears."""
+    site = forecourts.make_twelve_points()
+    day, unpaid = forecourts.Day(site), None
+    day.till(1, "SignOn")
+    for point in site.points:
+        day.till(1, "Open", point)
+    for n in range(1, MANY_SHIFTS + 1):
+        if unpaid:
+            day.clear(1, unpaid)
+        day.clear(1, day.sell(1 + n % 12, 1 + n % 3, 41_230 + 977 * n))
+        point, _, number = day.sell(1 + (n + 5) % 12, 1, 1_230 + 40_007 * n).partition("/")
+        unpaid = f"{point}/{n}/{number}"
+        day.close_shift()
+    return site, day
+
+
+def write_closed(folder, site):
+    """What the page is to have of each closed shift, the newest first: as `shifts` says, and what
+    `sales` says of products."""
+    lines = run(PROGRAM, "shifts", folder, "--json").out.decode().splitlines()
+    sales = run(PROGRAM, "sales", folder, "--json").out.decode().splitlines()
+    cents, names = collections.Counter(), {x["number"]: x["name"] for x in site["products"]}
+    for sale in map(json.loads, sales):
+        cents[sale["cleared in shift"], sale["product"]] += sale["cents"]
+    shifts = [shift for shift in map(json.loads, lines) if not shift["open"]]
+    return [
+        [[str(shift["shift"]), tell_moment(shift["opened"]), tell_moment(shift["closed"]),
+          str(shift["clears"]), space(shift["cents"] / 100, 2)],
+         *([names[one["number"]], f"{space(one['cleared'] / 1_000, 3)}\u00a0l",
+            space(cents[shift["shift"], one["number"]] / 100, 2)] for one in shift["products"])]
+        for shift in reversed(shifts)
+    ]  # fmt: skip
+
+
+@test
+@in_browser
+def closed_shifts_on_the_page():
+    """The second view has the closed shifts, the newest first: of 71 the last 63, and the others
+    once they are asked for, by the keyboard too. They are asked for when the view is opened and
+    when a shift is closed, and not each second."""
+    folder = HERE / "closed"
+    made, words = make_many_shifts(), ("--history", folder)
+    with start_busy(made, *words) as (page, _), start_browser() as browser:
+        browser.open(page.url, *WIDE)
+        wait_until("the page", lambda: browser.evaluate(TILES))
+        expect("not yet", browser.evaluate(ASKED), [])
+        browser.evaluate("location.hash = 'history'")
+        wanted = write_closed(folder, page.site())
+        wait_until("63 shifts", lambda: len(browser.evaluate(CLOSED)) == 63)
+        expect("the last ones", browser.evaluate(CLOSED), wanted[:63])
+        found = read_roles(browser)
+        for role, name in (("heading", "Closed shifts"), ("table", "Closed shifts"),
+                           ("rowheader", "70"), ("button", "earlier shifts")):  # fmt: skip
+            expect(f"{role} {name}", (role, name) in found, True)
+        browser.evaluate("document.getElementById('to-figures').focus()")
+        press(browser, "Tab", "Tab", "Enter")
+        wait_until("all shifts", lambda: len(browser.evaluate(CLOSED)) == MANY_SHIFTS)
+        expect("all", browser.evaluate(CLOSED), wanted)
+        wait_until("it is told", lambda: browser.evaluate(NEWS) == "closed shifts from 1")
+        expect("the button is gone", ("button", "earlier shifts") in read_roles(browser), False)
+        focus = "document.activeElement.id"
+        expect("where the focus is", browser.evaluate(focus), "closed-shifts")
+        time.sleep(2.5)
+        expect("asked for", browser.evaluate(ASKED), ["shifts?from=8", "shifts?from=1"])
+        expect("closed", is_accepted(page.tell(ask_site(1, CLOSE_SHIFT, 0))), True)
+        wait_until("one more", lambda: len(browser.evaluate(CLOSED)) == MANY_SHIFTS + 1)
+        wanted = write_closed(folder, page.site())
+        expect("all of them", browser.evaluate(CLOSED), wanted)
+        for size in (SCREEN, TELEPHONE):
+            browser.resize(*size)
+            expect_legible(browser)
+        browser.evaluate("location.hash = ''")
+        wait_until("the first view", lambda: browser.evaluate(SEEN) == ["points", "foot"])
+        browser.evaluate("location.hash = 'history'")
+        wait_until("the last ones again", lambda: len(browser.evaluate(CLOSED)) == 63)
+        expect("they are", browser.evaluate(CLOSED), wanted[:63])
+        expect("asked for again", browser.evaluate(ASKED)[2:], ["shifts?from=9"] * 2)
+        expect("complaints of the browser", browser.complaints, [])
 
 
 @test_beside
@@ -1349,7 +1770,9 @@ def expect_column(browser, size):
     """The tiles stand one below another, as wide as the window, and nothing is scrolled
     sideways."""
     boxes = browser.evaluate(RECTANGLES)
-    expect("one column", {(x[0], x[2]) for x in boxes}, {(4, size[0] - 4)})
+    edge = boxes[0][0]
+    expect("one column", {(x[0], x[2]) for x in boxes}, {(edge, size[0] - edge)})
+    expect("to its edges", edge <= 6, True)
     width = browser.evaluate("document.documentElement.scrollWidth")
     expect("no scrolling sideways", width <= size[0], True)
 
@@ -1393,7 +1816,8 @@ def sixty_four_points():
     """64 points in every state, with as many unpaid transactions as they may have: on a screen all
     stand within the window; on a telephone one below another; whatever the window is no text is
     cut off or faint. What is out and a product's name end early first, and that shows."""
-    with start_busy(forecourts.make_crowded_day()) as (page, _), start_browser() as browser:
+    made, words = forecourts.make_crowded_day(), ("--history", HERE / "sixty-four")
+    with start_busy(made, *words) as (page, _), start_browser() as browser:
         expect("states", {x["state"] for x in page.site()["points"]}, set(range(1, 10)))
         for dark in (False, True):
             open_page(browser, page, SCREEN, dark, 64)
@@ -1417,19 +1841,29 @@ def sixty_four_points():
 def twelve_points():
     """A busy day at twelve points: nothing ends early; on a large screen money, litres and states
     can be read from two metres."""
-    with start_busy(forecourts.make_busy_day()) as (page, _), start_browser() as browser:
-        for size in (SCREEN, WIDE, ASIDE, TELEPHONE):
-            open_page(browser, page, size, False, 12)
+    made, words = forecourts.make_busy_day(), ("--history", HERE / "twelve")
+    with start_busy(made, *words) as (page, _), start_browser() as browser:
+        for size, dark in itertools.product((SCREEN, WIDE, ASIDE, TELEPHONE), (False, True)):
+            open_page(browser, page, size, dark, 12)
             expect_legible(browser)
         open_page(browser, page, WIDE, False, 12)
         expect_one_screen(browser, 12, WIDE)
-        for selector, least in (("#points .flowed", 30), ("#points .sum", 30), (".state", 22)):
-            high = measure_capitals(browser, selector)
-            expect(f"{selector}: {high:.1f} pixels", high >= least, True)
+        expect_sizes(browser)
         open_page(browser, page, SCREEN, False, 12)
         expect_one_screen(browser, 12, SCREEN)
         expect_each_tile(browser, page)
         expect("complaints of the browser", browser.complaints, [])
+
+
+SIZES = (("#points .flowed", 30), ("#points .sum", 30), (".state", 22), ("#products .flowed", 23),
+         ("#products .taken", 23))  # fmt: skip
+
+
+def expect_sizes(browser):
+    """Capitals have at least so many pixels."""
+    for selector, least in SIZES:
+        high = measure_capitals(browser, selector)
+        expect(f"{selector}: {high:.1f} pixels", high >= least, True)
 
 
 @test
@@ -1441,7 +1875,8 @@ def fewer_points_with_long_figures():
     for numbers, may_end_early in ((range(60, 65), ()), (range(53, 65), ()),
                                    (range(17, 37), ("out", "product"))):  # fmt: skip
         made, last, count = forecourts.make_crowded_day(numbers=numbers), numbers[-1], len(numbers)
-        with start_busy(made) as (page, _), start_browser() as browser:
+        words = ("--history", HERE / f"long-{count}")
+        with start_busy(made, *words) as (page, _), start_browser() as browser:
             for size, dark in ((WIDE, False), (SCREEN, True), (TELEPHONE, False), (ASIDE, True)):
                 open_page(browser, page, size, dark, last)
                 if size in (WIDE, SCREEN):
@@ -1455,8 +1890,47 @@ def fewer_points_with_long_figures():
                 count_wide = """[...document.querySelectorAll('#figures section')]
                     .filter(one => one.scrollWidth > one.clientWidth).length"""
                 wide = browser.evaluate(count_wide)
-                expect("sections scrolled sideways", wide <= (1 if size == TELEPHONE else 0), True)
+                most = {WIDE: 0, SCREEN: 0, TELEPHONE: 1}[size]  # the parts
+                expect("sections scrolled sideways", wide <= most, True)
             expect("complaints of the browser", browser.complaints, [])
+
+
+@test
+@in_firefox
+def layouts_in_firefox():
+    """Five, twelve and 64 points in Firefox, light and dark: on screens all tiles stand within the
+    window, on a telephone one below another, and no text is cut off or faint. With twelve points on
+    a large screen money, litres and states can be read from two metres."""
+    days = (
+        (forecourts.make_crowded_day(numbers=range(60, 65)), 5, 64, ()),
+        (forecourts.make_busy_day(), 12, 12, ()),
+        (forecourts.make_crowded_day(), 64, 64, ("out", "product")),
+    )
+    with contextlib.ExitStack() as stack:
+        started = [start_busy(day[0], "--history", HERE / f"firefox-{day[1]}") for day in days]
+        pages = [stack.enter_context(one)[0] for one in started]
+        for dark in (False, True):
+            with start_firefox(dark) as browser:
+                for page, (_, count, last, may_end_early) in zip(pages, days):
+                    expect_layouts(browser, page, count, last, may_end_early)
+                    expect("dark", browser.evaluate(IS_DARK), dark)
+
+
+IS_DARK = "matchMedia('(prefers-color-scheme: dark)').matches"
+
+
+def expect_layouts(browser, page, count, last, may_end_early):
+    """The page is laid out well in windows of all sizes."""
+    for size in (TELEPHONE, WIDE, SCREEN):
+        browser.open(page.url, *size)
+        expect_words(browser, last, str(last))
+        if size == TELEPHONE:
+            expect_column(browser, size)
+        else:
+            expect_one_screen(browser, count, size)
+        expect_legible(browser, () if size == TELEPHONE else may_end_early)
+        if (count, size) == (12, WIDE):
+            expect_sizes(browser)
 
 
 def expect_each_tile(browser, page):
@@ -1465,18 +1939,18 @@ def expect_each_tile(browser, page):
     is_lost = "document.body.classList.contains('lost')"
     wait_until("an answer", lambda: not browser.evaluate(is_lost))
     site = page.site()
-    names = {one["number"]: one["name"] for one in site["products"]}
     for point in site["points"]:
-        sales = [x for x in site["transactions"] if x["point"] == point["number"]]
         said = read_tile(browser, point["number"])
-        wanted = write_tile(point, names, sales, site["shift"])
-        expect(f"point {point['number']}", said, "|".join(wanted))
+        expect(f"point {point['number']}", said, "|".join(write_tile(point, site)))
     texts = "[...document.querySelectorAll('{0}')].map(x => x.textContent)"
     prices = browser.evaluate(texts.format("#products .price"))
     expect("prices", prices, [f"{x['mills'] / 1_000:.3f}" for x in site["products"]])
-    metered = browser.evaluate(texts.format("#products .flowed"))
-    wanted = [f"{space(round_litres(x['metered']), 2)} l" for x in site["products"]]
-    expect("metered", metered, wanted)
+    cleared = browser.evaluate(texts.format("#products .flowed"))
+    wanted = [f"{space(round_litres(x['cleared']), 2)} l" for x in site["shift products"]]
+    expect("cleared in the open shift", cleared, wanted)
+    taken = browser.evaluate(texts.format("#products .taken"))
+    wanted = [space(x["cents"] / 100, 2) for x in site["shift products"]]
+    expect("money of the open shift", taken, wanted)
     parts = ("running", "payable", "locked", "cleared", "adjusted", "metered")
     for table in ("#shares", "#parts"):
         cells = browser.evaluate(texts.format(f"{table} td"))
@@ -1500,11 +1974,21 @@ def space(number, digits):
     return f"{number:,.{digits}f}".replace(",", "\u00a0")
 
 
-def write_tile(point, names, sales, shift):
+def name_of(sale):
+    return sale["point"], sale["shift"], sale["number"]
+
+
+def write_tile(point, site):
     """The words that a tile is to have."""
+    names = {one["number"]: one["name"] for one in site["products"]}
+    sales = [one for one in site["transactions"] if one["point"] == point["number"]]
+    calling = {one["point"]: one["since"] for one in site["calling"]}
+    sold = {name_of(one): one["at"] for one in site["sold"]}
     fuelling = point["fuelling"]
     flows, words = fuelling["cents"] is not None, [str(point["number"]), STATES[point["state"] - 1]]
-    words += ["AGE"] if point["state"] == forecourts.CALLING else []
+    calls = point["state"] == forecourts.CALLING
+    expect("calling", point["number"] in calling, calls)
+    words += ["AGE"] if calls and calling[point["number"]] else []
     if flows:
         words.append(f"{round_litres(fuelling['millilitres']):.2f} l")
         words.append("test" if fuelling["test"] else f"{fuelling['cents'] / 100:.2f}")
@@ -1516,11 +2000,12 @@ def write_tile(point, names, sales, shift):
     words += [", ".join(marks)] if marks else [limit] if limit else []
     words += [f"held by till {point['holder']}"] if point["holder"] else []
     for sale in sales:
-        number = f"{sale['shift']}/" * (sale["shift"] != shift) + str(sale["number"])
+        number = f"{sale['shift']}/" * (sale["shift"] != site["shift"]) + str(sale["number"])
         locked = sale["status"] == "locked"
+        payable = "payable AGE" if sold[name_of(sale)] else "payable"
         words += [f"{sale['point']}/{number}", f"{round_litres(sale['millilitres']):.2f} l",
                   f"{sale['cents'] / 100:.2f}", names[sale["product"]],
-                  f"till {sale['till']} is collecting" if locked else "payable AGE"]  # fmt: skip
+                  f"till {sale['till']} is collecting" if locked else payable]  # fmt: skip
     return words
 
 

@@ -8,12 +8,14 @@ import collections
 import csv
 import hashlib
 import json
+import os
+import pty
 import re
 import subprocess
 import sys
 
 from shared import random_words, station
-from shared.checks import expect, expect_end
+from shared.checks import NO_FILE, expect, expect_end, first_line
 from shared.running import CRATES, EXAMPLES, PATIENCE, close_input, limit_memory, run
 from shared.station import FIVE_POINTS, KNOWN_SITE, LONGEST_LINE, SITES, SIXTY_FOUR_POINTS
 from tests.built import PROGRAM
@@ -121,6 +123,23 @@ def devices():
         )
 
 
+@test_each
+def terminals():
+    """Alone, at a terminal, the program says what it waits for; else it says nothing."""
+    said = (
+        "type a message in hexadecimal, a line each, and Ctrl-D at the end;"
+        " forecourt --help lists"
+    )
+    master, slave = pty.openpty()
+    os.write(master, b"\x04")
+    ended = subprocess.run([PROGRAM], stdin=slave, capture_output=True, timeout=60, check=False)
+    for end in (master, slave):
+        os.close(end)
+    got = ended.returncode, ended.stdout, ended.stderr.decode()
+    expect("at a terminal", got, (0, b"", f"{said} the commands\n"))
+    expect_end("not at a terminal", forecourt(given=""), 0, b"")
+
+
 def expect_mistake(*words):
     """Mistakes on the command line: status 2, nothing on standard output, some text on standard
     error, and no file is read."""
@@ -161,7 +180,9 @@ def mistaken_words():
 @test_each
 def help_texts():
     """What `help`, `--help` and `--version` print, of each command, too."""
-    expect_help("forecourt 0.1.0", "--version")
+    lines = expect_help("forecourt 0.1.0", "--version")
+    digest = hashlib.sha256(open(PROGRAM, "rb").read()).hexdigest()
+    expect("which program it is", lines[1:], [f"sha256 {digest}"])
     for word in ("help", "--help", "-h"):
         first = "The forecourt site controller; alone it replays standard input on the site that"
         lines = expect_help(f"{first} it knows", word)
@@ -234,7 +255,7 @@ def help_texts():
 @test_each
 def site_files():
     """Each site file of the cases: `ok ..` on standard output, or its first fault on standard
-    error. A replay on a faulty one says the same, and answers nothing."""
+    error, on the first line. A replay on a faulty one says the same, and answers nothing."""
     expect_whole(SITES, "toml")
     for case in sorted(SITES.glob("*.toml")):
         text = case.with_suffix(".out").read_text()
@@ -242,14 +263,16 @@ def site_files():
         if text.startswith("ok"):
             expect_end(f"check {case.name}", end, 0, text.encode())
         else:
-            expect_end(f"check {case.name}", end, 1, b"", text.rstrip("\n"))
-            end = forecourt("replay", case, given="no hexadecimal\n")
-            expect_end(f"replay on {case.name}", end, 1, b"", text.rstrip("\n"))
-    for words in (["check", "no_such_file"], ["check", "."], ["report", "no_such_file"]):
-        end = forecourt(*words, given=STORED)
-        expect_end(
-            f"{words[0]} on a file that can't be read", end, 1, b"", f"cannot read {words[1]}"
-        )
+            told = end._replace(err=first_line(end.err))
+            expect_end(f"check {case.name}", told, 1, b"", text.rstrip("\n"))
+            replay = forecourt("replay", case, given="no hexadecimal\n")
+            expect(f"replay on {case.name}", replay, end)
+    for command, name, why in (
+        ("check", "no_such_file", NO_FILE), ("check", ".", "Is a directory"),
+        ("report", "no_such_file", NO_FILE), ("check", "src/main.rt/x", "Not a directory"),
+    ):  # fmt: skip
+        end = forecourt(command, name, given=STORED)
+        expect_end(f"{command} on {name}", end, 1, b"", f"cannot read {name}: {why}")
 
 
 @test_each
@@ -408,8 +431,12 @@ t01 SignOn                | word 1 "t01": t1 to t32, or d1 to d64
 d65 Online 1              | word 1 "d65": t1 to t32, or d1 to d64
 T1 signon                 | word 1 "T1": t1 to t32, or d1 to d64
 t1                        | word 2 is missing: the name of an event, as SignOn
-t1 signon                 | word 2 "signon": the name of an event, as SignOn
-t1 signon now             | word 2 "signon": the name of an event, as SignOn
+t1 signon                 | word 2 "signon": the name of an event, perhaps SignOn
+t1 signon now             | word 2 "signon": the name of an event, perhaps SignOn
+t1 Realease 1             | word 2 "Realease": the name of an event, perhaps Release
+d1 lft 1 1@0              | word 2 "lft": the name of an event, perhaps Lift
+t1 ReadPiont 1            | word 2 "ReadPiont": the name of an event, as SignOn
+t1 Sign                   | word 2 "Sign": the name of an event, as SignOn
 t1 SignOn now             | word 3 "now": nothing more
 t1 Open                   | word 3 is missing: a fuelling point, 1 to 64
 t1 Open 65                | word 3 "65": a fuelling point, 1 to 64
@@ -465,6 +492,10 @@ t1 Release 1 money, token | word 5 is missing before the comma: a number, 0 to 4
 t1 Prepay 2, 3000         | word 4 is missing before the comma: a number, 0 to 4294967295
 t1, token 1               | word 2 is missing before the comma: the name of an event, as SignOn
 t1 Release 1 volume 3 l,5 | word 6 "l": nothing more
+t1 Release 1 volume 9,000 | word 6 "000": token (numbers have no commas)
+t1 Prepay 2,3000          | word 4 is missing before the comma: a number, 0 to 4294967295 (numbers have no commas)
+t1 Prepay 1 20,00         | word 5 "00": token (numbers have no commas)
+t1 Release 1 2,5          | word 4 "2": volume, money, or nothing (numbers have no commas)
 , token 1                 | word 1 is missing before the comma: t1 to t32, or d1 to d64
 ,                         | word 1 is missing before the comma: t1 to t32, or d1 to d64
 """
@@ -609,7 +640,7 @@ def sales_of_a_day():
     end = forecourt("sales", FIVE_POINTS, given=None, preexec_fn=close_input)
     expect_end("sales on a closed standard input", end, 1, b"", "fault 61")
     end = forecourt("sales", "no_such_file", given="")
-    expect_end("sales on no site", end, 1, b"", "cannot read no_such_file")
+    expect_end("sales on no site", end, 1, b"", f"cannot read no_such_file: {NO_FILE}")
     for words in (["sales"], ["sales", FIVE_POINTS, "--csv"], ["spell", FIVE_POINTS]):
         expect_mistake(*words)
 
@@ -676,8 +707,9 @@ def greatest_site():
 
 @test_each
 def texts_of_a_site():
-    """A journal and a chapter of a history name their site file, above their first message: on
-    another one they are refused, and nothing is printed; on their own they are as without."""
+    """A journal and a chapter of a history name their site file: on another one they are refused,
+    and nothing is printed; on their own they are as without. So is each further one behind them,
+    of which a replay has printed the replies above it."""
     own, other = (
         hashlib.sha256(site.read_bytes()).hexdigest() for site in (KNOWN_SITE, FIVE_POINTS)
     )
@@ -704,10 +736,20 @@ def texts_of_a_site():
             }.items():
                 end = forecourt(command, KNOWN_SITE, given=given)
                 expect_end(f"{name} of another site, {kind}", end, *refused)
+            above = plain.out if command == "replay" else b""
             for kind, given in {
                 "below a row": rows + head.format(other),
-                "in the octets after the first 256": "#" * 255 + "\n" + head.format(other) + rows,
+                "below a row, at its end": rows + head.split("{}")[0] + other,
+                "below one of this site": head.format(own) + rows + head.format(other) + rows,
+            }.items():
+                end = forecourt(command, KNOWN_SITE, given=given)
+                name_below = f"{name} of another site, {kind}"
+                expect_end(name_below, end, 1, above, f"{text} of another site")
+            end = forecourt(command, KNOWN_SITE, given="#" * 255 + "\n" + head.format(other) + rows)
+            expect_end(f"{name} of another site, below a long comment", end, *refused)
+            for kind, given in {
                 "with a digit too few": head.format(other[1:]) + rows,
+                "behind a space": " " + head.format(other).replace("\n# ", "\n # ") + rows,
                 "with other letters": head.format("x" * 64) + rows,
                 "of its own, in upper case": head.format(own.upper()) + rows,
             }.items():

@@ -11,7 +11,7 @@ import shutil
 import subprocess
 
 from shared import random_words
-from shared.checks import expect
+from shared.checks import NO_FILE, expect
 from shared.histories import (
     LOCK_FILE, SITE_FILE, chapter_path, is_read, list_chapters, read_chapters, retitle, seal_line,
     time_line, write_chapters, write_history, write_rows,
@@ -369,7 +369,8 @@ SALES_TIMES = {  # of each sale, by its shift and number, when it was sold and c
 
 def write_times():
     """A history with the sales of `SALES_TIMES`, and draws before the first time and at the last.
-    A time that falls is none; the first rows of a chapter are at the last time of the one before."""
+    A time that falls is none; the first rows of a chapter are at the last time of the one
+    before."""
     made = TimedHistory()
     made.sell()
     made.draw()
@@ -418,7 +419,8 @@ def times_of_sales():
         wanted = {name: times for name, times in SALES_TIMES.items() if name[0] == shift}
         expect(f"shift {shift}", read_sales(folder, "--shift", shift), wanted)
     line, = [
-        line for line in print_of(folder, "sales").decode().splitlines() if line.startswith("1,1,2,")
+        line for line in print_of(folder, "sales").decode().splitlines()
+        if line.startswith("1,1,2,")
     ]
     expect("a line's end", line.endswith(f",cleared,1,2,{EIGHT},{LAST_OF_DAY}"), True)
 
@@ -534,7 +536,7 @@ def no_histories():
     good = write_history(HERE / "good", KNOWN_SITE, *write_chapters(KNOWN_SITE, *bodies))
     for command in ("replay", "explain", "sales", "report"):
         for folder, fault in (
-            (nothing, f"cannot read {nothing}/site.toml\n"),
+            (nothing, f"cannot read {nothing}/site.toml: {NO_FILE}\n"),
             (faulty, "site.toml: fault 72 product\n"),
         ):
             ended = run(PROGRAM, command, folder)

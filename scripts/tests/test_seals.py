@@ -8,7 +8,7 @@ import re
 import subprocess
 import typing
 
-from shared.checks import expect
+from shared.checks import NO_FILE, expect
 from shared.histories import (
     FIRST_LINES, LOCK_FILE, NO_SEAL, SITE_FILE, chapter_path, first_lines, seal_line, seal_of,
     write_history, write_rows,
@@ -324,7 +324,7 @@ def changed_chapters():
     expect("another site", (ended.status, ended.out, ended.err), (1, b"", said))
     (folder / SITE_FILE).unlink()
     ended = verify(folder)
-    said = f"cannot read {folder}/{SITE_FILE}\n"
+    said = f"cannot read {folder}/{SITE_FILE}: {NO_FILE}\n"
     expect("no site", (ended.status, ended.out, ended.err), (1, b"", said))
 
 

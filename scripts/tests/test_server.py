@@ -12,8 +12,8 @@ import statistics
 import threading
 import time
 
-from shared.checks import Failed, expect
-from shared.running import run
+from shared.checks import NO_FILE, Failed, expect, first_line
+from shared.running import run, tell_deaf
 from shared.serving import WAIT, list_addresses, send_reset, send_until, start_day
 from shared.station import (
     ASSIGN, CLEAR, FLOW, HANG_UP, KNOWN_SITE, LIFT, LOCK, OPEN, RELEASE, TERMINATE, command_point,
@@ -249,7 +249,7 @@ def greatest_port():
         expect(
             "a busy port",
             run_to_end("serve", KNOWN_SITE, *options(port=65_535)),
-            (1, "", "fault 63\n"),
+            (1, "", tell_deaf(65_535)),
         )
         return
     with serve(1, 1, port=65_535) as day:
@@ -383,17 +383,14 @@ def faulty_files():
         expect(
             "no file",
             run_to_end("serve", "no_such_file", *options(port=port)),
-            (1, "", "cannot read no_such_file\n"),
+            (1, "", f"cannot read no_such_file: {NO_FILE}\n"),
         )
-        expect(
-            "an empty file",
-            run_to_end("serve", "/dev/null", *options(port=port)),
-            (1, "", "fault 72 product\n"),
-        )
+        status, out, err = run_to_end("serve", "/dev/null", *options(port=port))
+        expect("an empty file", (status, out, first_line(err)), (1, "", "fault 72 product\n"))
         expect(
             "a busy port",
             run_to_end("serve", KNOWN_SITE, *options(port=port)),
-            (1, "", "fault 63\n"),
+            (1, "", tell_deaf(port)),
         )
 
 

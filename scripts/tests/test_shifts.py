@@ -8,7 +8,7 @@ import shutil
 import subprocess
 import tomllib
 
-from shared.checks import expect
+from shared.checks import NO_FILE, expect
 from shared.histories import (
     LOCK_FILE, SITE_FILE, list_chapters, time_line, whole_lines, write_chapters, write_history,
     write_rows,
@@ -16,8 +16,8 @@ from shared.histories import (
 from shared.running import run
 from shared.serving import start_day
 from shared.station import (
-    CLEAR, FLOW, HANG_UP, KNOWN_SITE, LOCK, OPEN, RELEASE, SUSPEND, TERMINATE, TEST_RELEASE, WRITE,
-    ask, command_point, command_sale, read_site, report, sign_off, sign_on,
+    CLEAR, FLOW, HANG_UP, KNOWN_SITE, LIFT, LOCK, OPEN, RELEASE, SUSPEND, TERMINATE, TEST_RELEASE,
+    WRITE, ask, command_point, command_sale, read_site, report, sign_off, sign_on,
 )  # fmt: skip
 from tests.built import PROGRAM
 from tests.shifts_worked import CLOSE_IT, Work, cents_of, work_at
@@ -25,6 +25,7 @@ from tests.suite import make_folder, test
 
 HERE = make_folder()
 PRODUCTS = (1, 2)
+PETROL_PRICE = 1_799  # mills of a litre
 PRICE_ITEM_OF = 0x90  # sets a price
 
 
@@ -54,16 +55,17 @@ def run_on(word, folder, *words):
 
 class Figures:
     """The figures of a shift: of each till how many sales it cleared and for how much, and of each
-    product the millilitres that were cleared and drawn."""
+    product the millilitres that were cleared, their cents, and the millilitres drawn."""
 
     def __init__(self):
         self.tills = {}
-        self.cleared, self.drawn = (dict.fromkeys(PRODUCTS, 0) for _ in range(2))
+        self.cleared, self.cents, self.drawn = (dict.fromkeys(PRODUCTS, 0) for _ in range(3))
 
     def add(self, till, product, millilitres, cents):
         clears, sum_ = self.tills.get(till, (0, 0))
         self.tills[till] = clears + 1, sum_ + cents
         self.cleared[product] += millilitres
+        self.cents[product] += cents
 
     @property
     def sums(self):
@@ -87,7 +89,8 @@ class Figures:
             "shift": number, "open": is_open, "opened": opened, "closed": closed,
             "clears": clears, "cents": cents,
             "products": [
-                {"number": q, "cleared": self.cleared[q], "drawn": self.drawn[q]} for q in PRODUCTS
+                {"number": q, "cleared": self.cleared[q], "cents": self.cents[q],
+                 "drawn": self.drawn[q]} for q in PRODUCTS
             ],
             "tills": [
                 {"number": till, "clears": count, "cents": sum_}
@@ -203,6 +206,44 @@ def yesterdays_sales():
     expect_shifts("two shifts", folder, [first, second])
 
 
+def fuel_petrol(work, pump, begin, end):
+    """A fuelling of petrol at point 2, from one reading to another, which is then a sale."""
+    work.do(work.till, command_point(1, 0, 2, RELEASE))
+    steps = (LIFT, begin), (FLOW, end), (HANG_UP, end)
+    work.do(pump, *(report(2, 0, step, reading, nozzle=2) for step, reading in steps))
+
+
+@test
+def money_by_product():
+    """The cents of a product in a shift are those of its sales that were cleared in it: of two
+    products whose prices differ, by two tills, a sale of yesterday, and one that isn't cleared."""
+    folder, first, second = new_folder("money"), Figures(), Figures()
+    with (
+        start_station(folder) as day, work_at(day) as work, day.connect() as other,
+        day.connect() as pump,
+    ):  # fmt: skip
+        work.come()
+        work.do(work.till, command_point(1, 0, 2, OPEN))
+        work.sell(1, 7_777)
+        first.add(1, 1, 7_777, cents_of(7_777))
+        fuel_petrol(work, pump, 1_000, 4_321)
+        work.do(work.till, *(command_sale(1, 0, 2, 1, one) for one in (LOCK, CLEAR)))
+        first.add(1, 2, 3_321, cents_of(3_321, PETROL_PRICE))
+        fuel_petrol(work, pump, 4_321, 5_000)
+        work.fuel(2_222)
+        work.do(other, *collect_by(work, 2, 2))
+        first.add(2, 1, 2_222, cents_of(2_222))
+        expect_shifts("two products", folder, [first])
+        work.close_shift()
+        named = bytes.fromhex("22 22 0001 0002")
+        work.do(work.till, *(ask(1, WRITE, 0, named, (one, b"")) for one in (LOCK, CLEAR)))
+        second.add(1, 2, 679, cents_of(679, PETROL_PRICE))
+        fuel_petrol(work, pump, 5_000, 9_000)
+        expect_shifts("a sale of yesterday", folder, [first, second])
+        end(day)
+    expect_shifts("after the day", folder, [first, second])
+
+
 @test
 def times_of_shifts():
     """When each shift was opened and closed: the times of its first row and of its accepted
@@ -222,7 +263,8 @@ def times_of_shifts():
         ("a close that is refused", [close + time_line(early) + come + time_line(later) + close],
          [(None, later), (None, None)]),
         ("one chapter", [time_line(early) + come + close + time_line(later) + close
-                         + time_line(last) + refused], [(early, early), (later, later), (last, None)]),
+                         + time_line(last) + refused],
+         [(early, early), (later, later), (last, None)]),
     ):  # fmt: skip
         texts = write_chapters(KNOWN_SITE, *bodies)
         folder = write_history(HERE / "times", KNOWN_SITE, *texts)
@@ -253,9 +295,9 @@ def no_histories():
     (faulty / SITE_FILE).write_bytes(b"")
     for word in ("shifts", "next"):
         for folder, fault in (
-            (HERE / "none", f"cannot read {HERE / 'none'}/site.toml\n"),
-            (file, f"cannot read {file}/site.toml\n"),
-            (nothing, f"cannot read {nothing}/site.toml\n"),
+            (HERE / "none", f"cannot read {HERE / 'none'}/site.toml: {NO_FILE}\n"),
+            (file, f"cannot read {file}/site.toml: Not a directory\n"),
+            (nothing, f"cannot read {nothing}/site.toml: {NO_FILE}\n"),
             (faulty, "site.toml: fault 72 product\n"),
         ):
             ended = run(PROGRAM, word, folder)

@@ -25,7 +25,7 @@ import termios
 import threading
 import time
 
-from shared.checks import Failed, expect
+from shared.checks import NO_FILE, Failed, expect, first_line
 from shared.histories import is_read
 from shared.running import close_input, compile_c, run
 from shared.serving import (
@@ -370,8 +370,8 @@ def faults():
 
 @test
 def an_octet_now_and_then():
-    """A hundred peers of whom an octet comes now and then. They are few octets, since a first message
-    is to be whole within ten seconds."""
+    """A hundred peers of whom an octet comes now and then. They are few octets, since a first
+    message is to be whole within ten seconds."""
     with start_station() as day, contextlib.ExitStack() as stack:
         before = expect_fast(day)
         peers = [stack.enter_context(day.connect()) for _ in range(100)]
@@ -1403,7 +1403,8 @@ def mistaken_words():
             expect(f"{words}", got, (2, b"", True, False))
     with socket.create_server(("127.0.0.1", 0)) as busy:
         port = str(busy.getsockname()[1])
-        for site, why in (("no_such_file", "cannot read no_such_file\n"),
+        for site, why in (("no_such_file", f"cannot read no_such_file: {NO_FILE}\n"),
                           ("/dev/null", "fault 72 product\n"), (KNOWN_SITE, "fault 63\n")):
             ended = run(PROGRAM, "station", site, "--port", port, given=b"")
-            expect(f"{site}", (ended.status, ended.out, ended.err), (1, b"", why))
+            got = (ended.status, ended.out, first_line(ended.err))
+            expect(f"{site}", got, (1, b"", why))

@@ -7,6 +7,7 @@ import functools
 import json
 import re
 import shutil
+import signal
 import socket
 import subprocess
 import urllib.parse
@@ -22,6 +23,7 @@ from tests.suite import make_folder, test
 HERE = make_folder()
 WATCH = EXAMPLES / "watch"
 start_page = functools.partial(page_day.start_page, PROGRAM)
+POINTS = 5  # of the site
 
 
 def need(program):
@@ -55,14 +57,16 @@ def each_alert_fires():
 
 @contextlib.contextmanager
 def start_prometheus(page_port):
-    """Prometheus with the rules of the examples, which asks this page each second."""
+    """Prometheus with the rules of the examples, which asks this page and looks at its rules each
+    second. An alert fires once it has waited for two seconds, whatever its rule says."""
     folder = HERE / "prometheus"
     folder.mkdir()
     config = (WATCH / "prometheus.yml").read_text()
     config = config.replace("15s", "1s").replace("4002", str(page_port))
     config = config.replace("global:", "global:\n  evaluation_interval: 1s")
-    config = config.replace("- rules.yml", f"- {WATCH / 'rules.yml'}")
     (folder / "prometheus.yml").write_text(config)
+    rules = re.sub(r"\bfor: \w+", "for: 2s", (WATCH / "rules.yml").read_text())
+    (folder / "rules.yml").write_text(rules)
     with socket.socket() as free:
         free.bind(("127.0.0.1", 0))
         port = free.getsockname()[1]
@@ -93,7 +97,8 @@ def ask_prometheus(port, query):
 @test
 def prometheus_reads_a_station():
     """The real program asks a station, finds it up, reads its figures, and answers each query of
-    the dashboard."""
+    the dashboard. An alert fires where its cause is there, and no longer than that: of dispensers
+    that aren't connected, of a gap, and of a station that doesn't answer."""
     need("prometheus")
     dashboard = json.loads((WATCH / "dashboard.json").read_text())
     queries = [target["expr"] for panel in dashboard["panels"] for target in panel["targets"]]
@@ -102,7 +107,35 @@ def prometheus_reads_a_station():
         wait_until("the station is up", lambda: 1.0 in (ask("up") or {}).values())
         site = page.site()
         points = sum((ask("witsomar_points") or {}).values())
-        expect("its points", points, len(site["points"]))
+        expect("its points", (points, len(site["points"])), (POINTS, POINTS))
         for query in queries:
             wait_until(query, lambda: ask(query))
-        expect("no alert of a station that runs", ask('ALERTS{alertstate="firing"}'), {})
+        expect_alert(ask, "DispenserMissing")
+        page.say("t1 Open 1", *(f"d{point} Online {point}" for point in range(1, POINTS + 1)))
+        expect_alert(ask)
+        page.say("d1 Lift 1 1@77")
+        expect_alert(ask, "GapOpen")
+        page.say("d1 Lift 1 1@0", "d1 HangUp 1 1@0")
+        expect_alert(ask)
+        page.day.process.send_signal(signal.SIGSTOP)
+        try:
+            expect_alert(ask, "StationDown")
+        finally:
+            page.day.process.send_signal(signal.SIGCONT)
+        expect_alert(ask)
+
+
+def expect_alert(ask, *wanted):
+    """Waits until these alerts fire and no other one does, nor waits to."""
+
+    def is_so():
+        found = ask("ALERTS")
+        return found is not None and list_alerts(found) == {(name, "firing") for name in wanted}
+
+    wait_until(f"alerts {', '.join(wanted) or 'none'}", is_so)
+
+
+def list_alerts(found):
+    """Each alert's name and whether it is `pending` or `firing`."""
+    labels = [dict(one) for one in found]
+    return {(one["alertname"], one["alertstate"]) for one in labels}

@@ -153,7 +153,8 @@ impl<S: Read + Write + Drop> Asking<S> {
     }
 }
 
-/// The octets of a line of hexadecimal with its line feed; of a comment, and of an empty line, none.
+/// The octets of a line of hexadecimal with its line feed; of a comment, and of an empty line,
+/// none.
 fn octets_of(alloc: Global, line: &mut Vec<u8>) -> Result<Vec<u8>, NoMemory> {
     if line.last() == Some(&b'\n') {
         line.pop();

@@ -9,8 +9,8 @@ use Rattle.chapters.specs.ChapterText.{text_of_lines}
 use Rattle.chapters.specs.Seals.{Covers}
 
 -- so many chapters; the last seal; the hasher of the next one; whether nothing stands behind the
--- last one; how many lines of rows do, counted up to the limit; the last time that was told; the first
--- row of the open shift, once it has one; and how many seals there are
+-- last one; how many lines of rows do, counted up to the limit; the last time that was told; the
+-- first row of the open shift, once it has one; and how many seals there are
 pub record EndState : Type 0 where
   pub chapters : ℕ
   pub seal : List ℕ

@@ -1,5 +1,6 @@
 -- The laws of a history in chapters, and of its seals.
-use Rattle.std.specs.Prelude.{◌≡◌, ◌≢◌, ◌⊎◌, ◌++◌, ℕ, true, List, [], ◌∷◌, Some, filter, length, not}
+use Rattle.std.specs.Prelude.{◌≡◌, ◌≢◌, ◌⊎◌, ◌++◌, ℕ, true, List, [], ◌∷◌, Some, filter, length}
+use Rattle.std.specs.Prelude.{not}
 use Rattle.std.specs.List.{AllByRecursion, filter_map, flat_map}
 use Rattle.hex.specs.Hex.{encode_lower}
 use Rattle.sha2.specs.Sha256.{sha256}
@@ -92,8 +93,8 @@ pub record Collision (text another : List ℕ) : Type 0 where
   pub differ : one ≢ other
   pub same : sha256 one ≡ sha256 other
 
--- octets that this text has sealed, and whose SHA-256 is 32 zeros: what stands for a seal before the
--- first chapter
+-- octets that this text has sealed, and whose SHA-256 is 32 zeros: what stands for a seal before
+-- the first chapter
 pub record ZeroDigest (text : List ℕ) : Type 0 where
   pub octets : List ℕ
   pub sealed : IsSealed octets text

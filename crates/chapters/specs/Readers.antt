@@ -20,8 +20,8 @@ use Rattle.chapters.specs.HistoryEnds.{EndState, EndsAt}
 use Rattle.chapters.specs.Lines.{unfinished, whole_lines}
 
 -- the name of the site; the book of the rows, and what may be unpaid of it; where the text ends,
--- and where its last chapter began; how many lines of that one are read; whether octets stand behind
--- its last line feed
+-- and where its last chapter began; how many lines of that one are read; whether octets stand
+-- behind its last line feed
 pub record ReaderState : Type 0 where
   pub site : List ℕ
   pub book : Book

@@ -76,8 +76,8 @@ IsSaid name rows (commands.Station o) =
     (name ≡ codes "station") × IsOption (codes "FILE") rows o.site
     × IsOption (codes "port") rows o.port × IsOption (codes "doors") rows o.doors
     × IsOption (codes "history") rows o.history
-    × IsOption (codes "page") rows o.page × IsOption (codes "feed") rows o.feed
-    × IsOption (codes "idle") rows o.idle
+    × IsOption (codes "page") rows o.page × IsOption (codes "name") rows o.name
+    × IsOption (codes "feed") rows o.feed × IsOption (codes "idle") rows o.idle
     × IsOption (codes "rate") rows o.rate × IsOption (codes "house") rows o.house
     × IsOption (codes "release-age") rows o.release_age × IsOption (codes "lost") rows o.lost
     × HasFlag (codes "detached") rows o.detached × HasFlag (codes "json") rows o.json

@@ -17,8 +17,8 @@ pub enum Command<'a> {
     Meters(MetersOptions<'a>),
     /// `serve FILE --port N --workers N --sessions N`
     Serve(ServeOptions<'a>),
-    /// `station [FILE] [--port N] [--doors FOLDER] [--history FOLDER] [--page N] [--feed N]
-    /// [--idle SECONDS] [--rate N] [--detached] [--json]`
+    /// `station [FILE] [--port N] [--doors FOLDER] [--history FOLDER] [--page N] [--name TEXT]
+    /// [--feed N] [--idle SECONDS] [--rate N] [--detached] [--json]`
     Station(StationOptions<'a>),
     /// `demo FILE SCRIPT [--loopback]`
     Demo(DemoOptions<'a>),
@@ -142,6 +142,8 @@ pub struct StationOptions<'a> {
     pub history: Option<&'a str>,
     /// The port of the page; without one there is no page.
     pub page: Option<&'a str>,
+    /// The name of the site, for the page; without one it has none.
+    pub name: Option<&'a str>,
     /// The port of the feed; without one it is at its door alone, or there is none.
     pub feed: Option<&'a str>,
     /// After how many silent seconds a session ends; without a number none does.

@@ -44,8 +44,8 @@ fn serve<'a>(alloc: Global) -> Result<Command<'a>, AllocError>
 fn station<'a>(alloc: Global) -> Result<Command<'a>, AllocError>
     ensures { IfOk result (HasShape (command (codes "station")
         (new_rule (codes "FILE") ∷ option_rule (codes "port") ∷ option_rule (codes "doors")
-        ∷ option_rule (codes "history") ∷ option_rule (codes "page") ∷ option_rule (codes "feed")
-        ∷ option_rule (codes "idle") ∷ option_rule (codes "rate") ∷ option_rule (codes "house")
+        ∷ option_rule (codes "history") ∷ option_rule (codes "page") ∷ option_rule (codes "name")
+        ∷ option_rule (codes "feed") ∷ option_rule (codes "idle") ∷ option_rule (codes "rate") ∷ option_rule (codes "house")
         ∷ option_rule (codes "release-age") ∷ option_rule (codes "lost")
         ∷ flag_rule (codes "detached") ∷ flag_rule (codes "json") ∷ []))) }
 {
@@ -64,14 +64,15 @@ fn station<'a>(alloc: Global) -> Result<Command<'a>, AllocError>
 /// The station's command with what it may be given.
 fn add_station_options<'a>(alloc: Global, command: Command<'a>) -> Result<Command<'a>, AllocError>
     ensures { (s : _) → HasShape s command.entry → IfOk result (HasShape (with_arguments s
-        (option_rule (codes "history") ∷ option_rule (codes "page") ∷ option_rule (codes "feed")
-        ∷ option_rule (codes "idle") ∷ option_rule (codes "rate") ∷ option_rule (codes "house")
+        (option_rule (codes "history") ∷ option_rule (codes "page") ∷ option_rule (codes "name")
+        ∷ option_rule (codes "feed") ∷ option_rule (codes "idle") ∷ option_rule (codes "rate") ∷ option_rule (codes "house")
         ∷ option_rule (codes "release-age") ∷ option_rule (codes "lost")
         ∷ flag_rule (codes "detached") ∷ flag_rule (codes "json") ∷ []))) }
 {
     let history =
         "Stores each row in this folder before a reply is sent, and goes on where it ended";
     let page = "Serves a page that shows the site, on this port, from 0 (a free one) to 65535";
+    let name = "The site's name, which the page shows";
     let feed =
         "Feeds each stored row to who asks, as JSON, on this port, from 0 (a free one) to 65535";
     let idle = "Ends a session of which nothing came for so many seconds, from 1 to 86400";
@@ -82,6 +83,7 @@ fn add_station_options<'a>(alloc: Global, command: Command<'a>) -> Result<Comman
     let json = "Prints the report as one object of JSON";
     let command = add_argument(command, option(alloc, "history", "FOLDER", history))?;
     let command = add_argument(command, option(alloc, "page", "N", page))?;
+    let command = add_argument(command, option(alloc, "name", "TEXT", name))?;
     let command = add_argument(command, option(alloc, "feed", "N", feed))?;
     let command = add_argument(command, option(alloc, "idle", "SECONDS", idle))?;
     let command = add_argument(command, option(alloc, "rate", "N", rate))?;

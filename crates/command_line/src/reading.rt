@@ -125,6 +125,7 @@ fn read_station<'a>(words: &ArgMatches<'a>) -> StationOptions<'a>
         doors: find_text(words, "doors"),
         history: find_text(words, "history"),
         page: find_text(words, "page"),
+        name: find_text(words, "name"),
         feed: find_text(words, "feed"),
         idle: find_text(words, "idle"),
         rate: find_text(words, "rate"),

@@ -16,9 +16,12 @@ pub enum DayFault {
     /// An allocation failed.
     #[error("fault 31")]
     NoMemory,
-    /// It can't listen, or a connection couldn't be made.
+    /// It can't wait for connections, at a door or at all, or one couldn't be made.
     #[error("fault 63")]
     NoConnection,
+    /// It can't listen on this port of 127.0.0.1.
+    #[error("fault 63\ncannot listen on port {0}: another program may do so, or this user may not")]
+    Deaf(u16),
     /// A worker, or the thread that waits for a station's input, couldn't be started.
     #[error("fault 64")]
     NoWorker,
@@ -32,6 +35,15 @@ pub enum DayFault {
 }
 
 impl DayFault {
+    /// It can't listen on this port of 127.0.0.1; where it is 0, on no free one.
+    pub fn of_port(port: u16) -> DayFault {
+        if port == 0 {
+            DayFault::NoConnection
+        } else {
+            DayFault::Deaf(port)
+        }
+    }
+
     /// The exit status of a program that ends with this fault: 3 where the day isn't settled, 4 for
     /// want of memory, else 1.
     pub fn exit_status(self) -> u8
@@ -41,6 +53,7 @@ impl DayFault {
             DayFault::NoMemory => 4,
             DayFault::Unsettled(_) => 3,
             DayFault::NoConnection => 1,
+            DayFault::Deaf(_) => 1,
             DayFault::NoWorker => 1,
             DayFault::Write(_) => 1,
         }

@@ -70,8 +70,8 @@ impl ServerPlan {
 impl StationPlan {
     /// The plan that these words tell, or the first of them that isn't a decimal number in its
     /// range: the port from 0 (a free one) to 65535, those of the page and of the feed too, where
-    /// there is a word of them, the seconds, where there is a word of them, from 1 to 86,400, the rate from 0 to
-    /// 1,000,000, 1,000 where there is no word of it. A sign is no digit.
+    /// there is a word of them, the seconds, where there is a word of them, from 1 to 86,400, the
+    /// rate from 0 to 1,000,000, 1,000 where there is no word of it. A sign is no digit.
     pub fn read(
         port: Option<&str>,
         page: Option<&str>,

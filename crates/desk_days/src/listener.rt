@@ -19,7 +19,7 @@ pub struct Loopback {
 }
 
 impl Loopback {
-    /// Listens on this port of 127.0.0.1, on a free one where it is 0. `NoConnection` where that
+    /// Listens on this port of 127.0.0.1, on a free one where it is 0. `Deaf` where that
     /// can't be.
     pub fn bind<R: Net<Listener = TcpListener, Stream = TcpStream>>(
         rt: &R,
@@ -33,7 +33,7 @@ impl Loopback {
                 port,
                 failures: 0,
             }),
-            Err(_) => Err(DayFault::NoConnection),
+            Err(_) => Err(DayFault::of_port(port)),
         }
     }
 

@@ -141,9 +141,9 @@ impl Feeds {
     }
 
     /// Each link that is ready, or waits for rows where there are new ones, has its turn with these
-    /// last rows: for new ones at most every 50 milliseconds, whatever their number. Then those that
-    /// wait are accepted. Once a second whoever is late is closed, and
-    /// whoever has waited for rows for ten seconds is told which is next.
+    /// last rows: for new ones at most every 50 milliseconds, whatever their number. Then those
+    /// that wait are accepted. Once a second whoever is late is closed, and whoever has waited for
+    /// rows for ten seconds is told which is next.
     #[tactic(auto, using(crate::proofs::Serving::serving))]
     pub fn serve(
         &mut self,

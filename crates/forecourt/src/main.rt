@@ -4,6 +4,9 @@
 //! their files, texts and exit statuses in `program_io`.
 #![tactic(auto)]
 
+mod version;
+
+use crate::version::build_lines;
 use ask_command::run_ask;
 use command_line::{Command, ExplainOptions, NoCommand, parse};
 use desk_commands::{run_demo, run_serve};
@@ -19,7 +22,7 @@ use row_commands::{
 use shift_commands::{run_next, run_shifts};
 use station_command::run_station;
 use std::env;
-use std::io::ErrorKind;
+use std::io::{ErrorKind, IsTerminal, Stdin};
 use std::process::ExitCode;
 use std::sync::Wait;
 use std::thread::Threads;
@@ -52,7 +55,10 @@ fn read_words(rt: &HostRuntime) -> Result<Vec<String>, ExitCode> {
 fn run<T: Threads + Wait + Sync>(rt: &HostRuntime, threads: &T, command: Command<'_>) -> ExitCode {
     let input = rt.stdin();
     match command {
-        Command::ReplayHere => run_replay_here(rt, input),
+        Command::ReplayHere => {
+            say_what_it_waits_for(rt, &input);
+            run_replay_here(rt, input)
+        }
         Command::Check(site) => run_check(rt, site),
         Command::Replay(options) if is_folder(rt, options.site) => run_replay_folder(rt, options),
         Command::Replay(options) => run_replay(rt, input, options),
@@ -81,6 +87,16 @@ fn run<T: Threads + Wait + Sync>(rt: &HostRuntime, threads: &T, command: Command
     }
 }
 
+/// Says at a terminal what the program waits for there, without a command.
+fn say_what_it_waits_for(rt: &HostRuntime, input: &Stdin) {
+    if input.is_terminal() {
+        let _ = eprintln!(rt;
+            "type a message in hexadecimal, a line each, and Ctrl-D at the end; \
+             forecourt --help lists the commands"
+        );
+    }
+}
+
 /// The folder whose rows are to be explained. A number is none.
 fn find_folder<'a>(rt: &HostRuntime, options: ExplainOptions<'a>) -> Option<&'a str> {
     let word = options.what?;
@@ -92,15 +108,29 @@ fn find_folder<'a>(rt: &HostRuntime, options: ExplainOptions<'a>) -> Option<&'a 
     Some(word)
 }
 
-/// Prints what the words ask for in place of a command: help and the version on standard output,
-/// with status 0; a mistake on standard error, with status 2.
+/// Prints what the words ask for in place of a command: help, or the version and what this program
+/// was made of, on standard output, with status 0; a mistake on standard error, with status 2.
 fn exit_without_command(rt: &HostRuntime, ending: &NoCommand) -> ExitCode {
     match ending {
         NoCommand::NoMemory => exit_no_memory(rt),
         NoCommand::Mistake(text) => exit_with(eprint!(rt; "{text}"), COMMAND_LINE),
-        NoCommand::Help(text) => match print!(rt; "{text}") {
-            Ok(()) => ExitCode::SUCCESS,
-            Err(_) => exit_unwritten(rt),
+        NoCommand::Help(text) if is_version(text) => match build_lines(rt) {
+            Ok(lines) => print_help(rt, text, &lines),
+            Err(_) => exit_no_memory(rt),
         },
+        NoCommand::Help(text) => print_help(rt, text, ""),
+    }
+}
+
+/// Is it the version, a line alone? Help has several.
+fn is_version(text: &str) -> bool {
+    text.lines().count() == 1
+}
+
+/// Prints a text that was asked for, and these lines behind it.
+fn print_help(rt: &HostRuntime, text: &str, lines: &str) -> ExitCode {
+    match print!(rt; "{text}{lines}") {
+        Ok(()) => ExitCode::SUCCESS,
+        Err(_) => exit_unwritten(rt),
     }
 }

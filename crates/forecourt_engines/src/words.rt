@@ -4,6 +4,7 @@ mod asked;
 mod behind_name;
 mod event;
 mod event_name;
+mod nearest;
 mod parts;
 mod places;
 mod spell;

@@ -12,9 +12,9 @@ use std::fs;
 use std::io::ErrorKind;
 use std::rt::Files;
 
-/// How many chapters a folder has. Files whose names are no chapter's don't count. A list in which a
-/// number is left out is made once more: a chapter that has just come may stand in it where the one
-/// before, that came meanwhile, doesn't.
+/// How many chapters a folder has. Files whose names are no chapter's don't count. A list in which
+/// a number is left out is made once more: a chapter that has just come may stand in it where the
+/// one before, that came meanwhile, doesn't.
 ///
 /// `Unread` comes where the folder can't be listed, and `Missing` where a number is left out.
 pub fn count_chapters<R: Files + AllocGlobal>(rt: &R, folder: &str) -> Result<u64, FolderFault>

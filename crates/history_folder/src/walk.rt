@@ -98,8 +98,8 @@ impl FolderWalk {
         self.reader.end()
     }
 
-    /// How many octets of the current chapter aren't read yet. Once no row is left, they are those of
-    /// its last line, which has no line feed.
+    /// How many octets of the current chapter aren't read yet. Once no row is left, they are those
+    /// of its last line, which has no line feed.
     pub fn unread(&self) -> usize {
         self.text.len() - self.octets
     }

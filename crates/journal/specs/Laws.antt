@@ -54,9 +54,9 @@ pub record KeepsFirst (rows : List Row) (b : Book) : Type 0 where
   pub parts : kept_rows b.rows ≡ rows ++ more
 
 -- What was told is never taken back. Take a station of which each row is stored, as whenever
--- anybody is told or shown anything of it, and any steps from there on: moves, what peers take among
--- them, gates that are set, calls of the journal, crashes and starts. All rows that it had, but those
--- of reads, stay the first ones that its book keeps. So any start finds them.
+-- anybody is told or shown anything of it, and any steps from there on: moves, what peers take
+-- among them, gates that are set, calls of the journal, crashes and starts. All rows that it had,
+-- but those of reads, stay the first ones that its book keeps. So any start finds them.
 abbrev pub ToldRowsStay : Type 0
 ToldRowsStay = (s : StoredState) (j : JournalState) (f : DiskFile) (steps : List Step)
     → IsStored s → s.journal ≡ Some j → j.file ≡ Some f → is_all_stored s ≡ true

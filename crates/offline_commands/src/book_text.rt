@@ -6,9 +6,11 @@ ghost use Rattle.meter_table.specs.Figures.{all_figures};
 ghost use Rattle.meter_table.specs.Gaps.{gaps_of};
 ghost use Rattle.meter_table.specs.ReportLines.{gap_words};
 
+use crate::named_site::{NamedInput, exit_named};
 use crate::output::print_text;
 use crate::silent::{ends_its_text, replay_silently};
 use day_report::{report_as_json, report_for_people};
+use devices::Counted;
 use forecourt_engines::SiteBook;
 use forecourt_engines::replay::ReplayEnd;
 use meter_table::{
@@ -38,17 +40,16 @@ pub enum BookText {
 /// answers ended.
 pub fn print_of_book<R: Print + Eprint + AllocGlobal, I: Read + Drop>(
     rt: &R,
-    input: I,
-    turns: u64,
+    mut input: Counted<NamedInput<I>>,
     config: &SiteConfig,
     wanted: BookText,
 ) -> ExitCode {
-    let ReplayEnd { fault, book } = replay_silently(rt.alloc(), input, turns, config);
+    let ReplayEnd { fault, book } = replay_silently(rt.alloc(), &mut input, config);
     let Some(book) = book else {
-        return exit_replay(rt, fault);
+        return exit_named(rt, &input, fault);
     };
     if !ends_its_text(&fault) {
-        return exit_replay(rt, fault);
+        return exit_named(rt, &input, fault);
     }
     match text_of(rt.alloc(), &book, wanted) {
         Ok(text) => match print_text(rt, &text) {

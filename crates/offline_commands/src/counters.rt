@@ -26,7 +26,7 @@ pub fn run_meters<R: Files + Print + Eprint + AllocGlobal, I: Read + Drop>(
         BookText::Meters(form)
     };
     match open_input(rt, options.site, input) {
-        Ok((config, input, turns)) => print_of_book(rt, input, turns, &config, wanted),
+        Ok((config, input)) => print_of_book(rt, input, &config, wanted),
         Err(status) => status,
     }
 }

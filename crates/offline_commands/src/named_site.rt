@@ -1,24 +1,27 @@
-//! Refuses an input that names another site file than the one that it is read on. A journal names
-//! its own in its first line, a chapter of a history in its second.
+//! Refuses an input whose comments name another site file than the one that it is read on. A
+//! journal names its own in its first line, a chapter of a history in its second; of several
+//! chapters, one after another, each does.
 
-ghost use Rattle.std.specs.Prelude.{◌≡◌, ◌≢◌, ◌+◌, ◌<◌, drop, length, IfSome, None, Some};
+ghost use Rattle.std.specs.Prelude.{◌≡◌, ◌≢◌, ◌≤◌, ◌+◌, ◌<◌, drop, length, IfSome, None, Some};
+ghost use Rattle.std.specs.Process.{exit_status};
 ghost use Rattle.offline_commands.specs.NamedSites.{Names};
+ghost use Rattle.program_io.specs.declared.exit.TheConstants.{FAULT};
+ghost use Rattle.program_io.specs.Statuses.{status_after};
 
-use devices::{Counted, PIECE_OCTETS, ReadFault, read_piece};
+use devices::Counted;
 use forecourt_engines::ReplayFault;
 use hex_lines::text_of;
 use memchr::memchr;
-use program_io::{FAULT, TURNS, exit_fault, exit_replay, read_site_file};
+use program_io::{FAULT, exit_fault, exit_replay, read_site_file};
 use sha2::{Digest, Sha256};
-use site_base::{NoMemory, SiteConfig};
-use std::alloc::Global;
-use std::io::{Chain, Cursor, Read, Take};
+use site_base::SiteConfig;
+use std::io::{self, ErrorKind, Read};
 use std::process::ExitCode;
 use std::rt::Files;
 use thiserror::Error;
 
-/// A site's name is looked for in so many octets at an input's front.
-const NAME_OCTETS: usize = 256;
+/// No longer line names a site.
+const NAME_OCTETS: usize = 128;
 
 /// What a journal's first line begins with; the digits of its site file's SHA-256 follow.
 const OF_JOURNAL: &[u8] = b"# witsomar journal of site ";
@@ -40,158 +43,146 @@ enum NamedText {
     History,
 }
 
-/// Why an input isn't replayed.
-#[derive(Clone, Copy, Debug, PartialEq, Eq)]
-enum NoInput {
-    /// A read failed, or memory ran out, before it was known which site it names.
-    Ended(ReplayFault),
-    /// It names another site.
-    Another(NamedText),
+/// An input that ends, with an error, behind the first comment that names another site.
+#[derive(Drop)]
+pub struct NamedInput<I> {
+    input: I,
+    /// The SHA-256 of the site file that it is read on.
+    site: [u8; DIGEST],
+    line: LineFront,
+    /// What it is, once it has named another site.
+    another: Option<NamedText>,
 }
 
-impl From<NoMemory> for NoInput {
-    fn from(_e: NoMemory) -> NoInput {
-        NoInput::Ended(ReplayFault::NoMemory)
+impl<I: Read> NamedInput<I> {
+    /// Looks at the next octets. Returns how many of them there are up to the end of a line that
+    /// names another site; without one all.
+    fn look_at(&mut self, octets: &[u8]) -> usize
+        ensures { result ≤ length octets.now }
+    {
+        let mut rest = octets;
+        for _ in 0..octets.len() {
+            let Some(end) = memchr(b'\n', rest) else {
+                break;
+            };
+            self.line.hold(&rest[..end]);
+            rest = after_line(rest, end);
+            self.end_line();
+            if self.another.is_some() {
+                return octets.len().saturating_sub(rest.len());
+            }
+        }
+        self.line.hold(rest);
+        octets.len()
+    }
+
+    /// The line has ended.
+    fn end_line(&mut self) {
+        self.another = another_named(self.line.text(), &self.site);
+        self.line = LineFront::EMPTY;
     }
 }
 
-impl From<ReadFault> for NoInput {
-    fn from(fault: ReadFault) -> NoInput {
-        NoInput::Ended(ReplayFault::Read(fault))
+impl<I: Read> Read for NamedInput<I> {
+    fn read(&mut self, buf: &mut [u8]) -> io::Result<usize> {
+        if self.another.is_some() {
+            return Err(io::Error::from(ErrorKind::InvalidData));
+        }
+        let count = self.input.read(buf)?;
+        if count > 0 {
+            return Ok(self.look_at(&buf[..count]));
+        }
+        // The last line may have no line feed.
+        self.end_line();
+        match self.another {
+            Some(_) => Err(io::Error::from(ErrorKind::InvalidData)),
+            None => Ok(0),
+        }
     }
 }
 
-/// An input whose front was read.
-pub type FrontRead<I> = Chain<Cursor<Vec<u8>>, Take<Counted<I>>>;
-
-/// The site of the file of this name, an input for it, and the turns that are left to read it. Or
-/// how the program ends: the file can't be read or has a fault, the input can't be read, or it
-/// names another site file.
+/// The site of the file of this name, and an input for it. Or how the program ends, where the file
+/// can't be read or has a fault.
 pub fn open_input<R: Files + Eprint + AllocGlobal, I: Read + Drop>(
     rt: &R,
     name: &str,
     input: I,
-) -> Result<(SiteConfig, FrontRead<I>, u64), ExitCode> {
+) -> Result<(SiteConfig, Counted<NamedInput<I>>), ExitCode> {
     let (config, site_file) = read_site_file(rt, name)?;
-    let (mut reader, mut turns) = (Counted::new(input), TURNS);
-    match read_named(rt.alloc(), &mut reader, &mut turns, &site_file) {
-        Ok(front) => {
-            // An input that has ended isn't read again: at a terminal more may be typed.
-            let left = if front.is_ended { 0 } else { u64::MAX };
-            let input = Cursor::new(front.octets).chain(reader.take(left));
-            Ok((config, input, turns))
-        }
-        Err(NoInput::Ended(fault)) => Err(exit_replay(rt, Some(fault))),
-        Err(NoInput::Another(text)) => Err(exit_fault(rt, text, FAULT)),
+    let named = NamedInput {
+        input,
+        site: Sha256::digest(&site_file),
+        line: LineFront::EMPTY,
+        another: None,
+    };
+    Ok((config, Counted::new(named)))
+}
+
+/// How the program ends whose input ended so: where that has named another site, it says that.
+pub fn exit_named<I: Read>(
+    rt: &impl Eprint,
+    input: &Counted<NamedInput<I>>,
+    fault: Option<ReplayFault>,
+) -> ExitCode {
+    exit_after(rt, input.get_ref().another, fault)
+}
+
+/// The same of what it is, if it has named another site.
+fn exit_after(rt: &impl Eprint, another: Option<NamedText>, fault: Option<ReplayFault>) -> ExitCode
+    ensures named { another ≡ None → exit_status result ≡ status_after fault }
+    ensures another { IfSome another (λ _. exit_status result ≡ FAULT) }
+{
+    match another {
+        Some(text) => exit_fault(rt, text, FAULT),
+        None => exit_replay(rt, fault),
     }
 }
 
-/// Reads an input as far as it may name a site, and fails if that is another one.
-fn read_named<I: Read>(
-    alloc: Global,
-    reader: &mut Counted<I>,
-    turns: &mut u64,
-    site_file: &[u8],
-) -> Result<Front, NoInput> {
-    let front = read_front(alloc, reader, turns)?;
-    let text = judged_text(alloc, &front)?;
-    let digest = Sha256::digest(site_file);
-    match find_another(&text, &digest) {
-        Some(text) => Err(NoInput::Another(text)),
-        None => Ok(front),
+/// The front of a line: of a comment that isn't too long to name a site, all that came of it.
+#[derive(Clone, Copy, Debug)]
+struct LineFront {
+    octets: [u8; NAME_OCTETS],
+    /// So many octets came; more than a front has, if the line names no site.
+    len: usize,
+}
+
+impl LineFront {
+    /// Nothing came yet.
+    const EMPTY: LineFront = LineFront {
+        octets: [0; NAME_OCTETS],
+        len: 0,
+    };
+
+    /// More of the line came.
+    fn hold(&mut self, part: &[u8]) {
+        if part.is_empty() || self.len > NAME_OCTETS {
+            return;
+        }
+        let is_comment = self.len > 0 || part[0] == b'#';
+        if !is_comment || part.len() > NAME_OCTETS - self.len {
+            self.len = NAME_OCTETS + 1;
+            return;
+        }
+        self.octets[self.len..self.len + part.len()].copy_from_slice(part);
+        self.len += part.len();
+    }
+
+    /// All of the line, if it may name a site; without its carriage return.
+    fn text(&self) -> &[u8] {
+        if self.len > NAME_OCTETS {
+            return &[];
+        }
+        text_of(&self.octets[..self.len])
     }
 }
 
-/// The octets that were read of an input, and whether it ended with them.
-#[derive(Drop)]
-struct Front {
-    octets: Vec<u8>,
-    is_ended: bool,
-}
-
-/// Reads an input as far as it may name a site.
-fn read_front<I: Read>(
-    alloc: Global,
-    reader: &mut Counted<I>,
-    turns: &mut u64,
-) -> Result<Front, NoInput> {
-    let mut octets = Vec::new(alloc);
-    let mut piece = [0u8; PIECE_OCTETS];
-    let mut is_ended = false;
-    for _ in 0..NAME_OCTETS {
-        if is_ended || octets.len() >= NAME_OCTETS || !has_comments_alone(&octets) {
-            break;
-        }
-        let n = read_piece(reader, &mut piece, turns)?;
-        is_ended = n == 0;
-        extend(&mut octets, &piece[..n])?;
+/// What a text is in which this line stands, if it names another site than this one.
+fn another_named(line: &[u8], site: &[u8; DIGEST]) -> Option<NamedText> {
+    if let Some(named) = &site_named(OF_JOURNAL, line) {
+        return unless_same(NamedText::Journal, named, site);
     }
-    Ok(Front { octets, is_ended })
-}
-
-/// Puts octets after others.
-fn extend(text: &mut Vec<u8>, octets: &[u8]) -> Result<(), NoMemory> {
-    text.extend_from_slice(octets)?;
-    Ok(())
-}
-
-/// The octets in which a name is looked for. The last line of an input is ended.
-fn judged_text(alloc: Global, front: &Front) -> Result<Vec<u8>, NoMemory> {
-    let mut text = Vec::new(alloc);
-    extend(
-        &mut text,
-        &front.octets[..front.octets.len().min(NAME_OCTETS)],
-    )?;
-    if front.is_ended {
-        extend(&mut text, b"\n")?;
-    }
-    Ok(text)
-}
-
-/// Is each line a comment, or empty?
-fn has_comments_alone(text: &[u8]) -> bool {
-    let mut rest = text;
-    for _ in 0..text.len() {
-        let Some(end) = memchr(b'\n', rest) else {
-            break;
-        };
-        if !is_comment(&rest[..end]) {
-            return false;
-        }
-        rest = after_line(rest, end);
-    }
-    is_comment(rest)
-}
-
-/// Is a line a comment, or empty, as a replay skips them?
-fn is_comment(line: &[u8]) -> bool {
-    for octet in text_of(line) {
-        if *octet != b' ' {
-            return *octet == b'#';
-        }
-    }
-    true
-}
-
-/// The text whose site another file is, if the first site that a line above the first message
-/// names isn't this file's.
-fn find_another(text: &[u8], digest: &[u8; DIGEST]) -> Option<NamedText> {
-    let mut rest = text;
-    for _ in 0..text.len() {
-        let Some(end) = memchr(b'\n', rest) else {
-            break;
-        };
-        let line = text_of(&rest[..end]);
-        if let Some(site) = &site_named(OF_JOURNAL, line) {
-            return unless_same(NamedText::Journal, site, digest);
-        }
-        if let Some(site) = &site_named(OF_HISTORY, line) {
-            return unless_same(NamedText::History, site, digest);
-        }
-        if !is_comment(line) {
-            break;
-        }
-        rest = after_line(rest, end);
+    if let Some(named) = &site_named(OF_HISTORY, line) {
+        return unless_same(NamedText::History, named, site);
     }
     None
 }

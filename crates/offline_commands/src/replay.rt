@@ -5,11 +5,11 @@ ghost use Rattle.std.specs.Process.{exit_status};
 ghost use Rattle.program_io.specs.declared.exit.TheConstants.{COMMAND_LINE};
 
 use crate::history_option::refuse_option;
-use crate::named_site::open_input;
+use crate::named_site::{exit_named, open_input};
 use command_line::ReplayOptions;
 use devices::Counted;
-use forecourt_engines::known_site;
 use forecourt_engines::replay::replay;
+use forecourt_engines::{ReplayFault, known_site};
 use program_io::{TURNS, exit_no_memory, exit_replay};
 use site_base::SiteConfig;
 use std::io;
@@ -27,7 +27,10 @@ pub fn run_replay<R: Files + Print + Eprint + AllocGlobal, I: Read + Drop>(
         return status;
     }
     match open_input(rt, options.site, input) {
-        Ok((config, input, turns)) => replay_on(rt, input, turns, &config, options.changes),
+        Ok((config, mut input)) => {
+            let fault = replay_on(rt, &mut input, &config, options.changes);
+            exit_named(rt, &input, fault)
+        }
         Err(status) => status,
     }
 }
@@ -50,21 +53,19 @@ pub fn run_replay_here<R: Print + Eprint + AllocGlobal, I: Read + Drop>(
     input: I,
 ) -> ExitCode {
     match known_site(rt.alloc()) {
-        Ok(config) => replay_on(rt, input, TURNS, &config, false),
+        Ok(config) => exit_replay(rt, replay_on(rt, &mut Counted::new(input), &config, false)),
         Err(_) => exit_no_memory(rt),
     }
 }
 
-/// Answers this input on this site, and says why the replay ended, if it ended with a fault.
-fn replay_on<R: Print + Eprint + AllocGlobal, I: Read + Drop>(
+/// Answers this input on this site. Returns with which fault the replay ended, if it did with one.
+fn replay_on<R: Print + AllocGlobal, I: Read + Drop>(
     rt: &R,
-    input: I,
-    turns: u64,
+    input: &mut Counted<I>,
     config: &SiteConfig,
     changes: bool,
-) -> ExitCode {
-    let mut reader = Counted::new(input);
+) -> Option<ReplayFault> {
     let mut writer = Counted::new(io::writer(rt));
-    let end = replay(rt.alloc(), config, &mut reader, &mut writer, turns, changes);
-    exit_replay(rt, end.fault)
+    let end = replay(rt.alloc(), config, input, &mut writer, TURNS, changes);
+    end.fault
 }

@@ -2,11 +2,11 @@
 
 use crate::book_text::{BookText, print_of_book};
 use crate::history_option::refuse_option;
-use crate::named_site::open_input;
+use crate::named_site::{NamedInput, exit_named, open_input};
 use command_line::{ReportForm, ReportOptions};
 use devices::Counted;
 use forecourt_engines::reporting::replay_to_report;
-use program_io::exit_replay;
+use program_io::TURNS;
 use site_base::SiteConfig;
 use std::io;
 use std::io::Read;
@@ -22,14 +22,14 @@ pub fn run_report<R: Files + Print + Eprint + AllocGlobal, I: Read + Drop>(
     if let Err(status) = refuse_option(rt, "shift", options.shift.is_some()) {
         return status;
     }
-    let (config, input, turns) = match open_input(rt, options.site, input) {
+    let (config, input) = match open_input(rt, options.site, input) {
         Ok(opened) => opened,
         Err(status) => return status,
     };
     match options.form {
-        ReportForm::Lines => report_lines(rt, input, turns, &config),
-        ReportForm::People => print_of_book(rt, input, turns, &config, BookText::People),
-        ReportForm::Json => print_of_book(rt, input, turns, &config, BookText::Json),
+        ReportForm::Lines => report_lines(rt, input, &config),
+        ReportForm::People => print_of_book(rt, input, &config, BookText::People),
+        ReportForm::Json => print_of_book(rt, input, &config, BookText::Json),
     }
 }
 
@@ -37,12 +37,10 @@ pub fn run_report<R: Files + Print + Eprint + AllocGlobal, I: Read + Drop>(
 /// replay ended, if it ended with a fault.
 fn report_lines<R: Print + Eprint + AllocGlobal, I: Read + Drop>(
     rt: &R,
-    input: I,
-    turns: u64,
+    mut input: Counted<NamedInput<I>>,
     config: &SiteConfig,
 ) -> ExitCode {
-    let mut reader = Counted::new(input);
     let mut writer = Counted::new(io::writer(rt));
-    let end = replay_to_report(rt.alloc(), config, &mut reader, &mut writer, turns);
-    exit_replay(rt, end.err())
+    let end = replay_to_report(rt.alloc(), config, &mut input, &mut writer, TURNS);
+    exit_named(rt, &input, end.err())
 }

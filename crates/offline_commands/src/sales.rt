@@ -5,7 +5,7 @@ ghost use Rattle.std.specs.Process.{exit_status};
 ghost use Rattle.program_io.specs.declared.exit.TheConstants.{COMMAND_LINE};
 
 use crate::history_option::refuse_option;
-use crate::named_site::open_input;
+use crate::named_site::{NamedInput, exit_named, open_input};
 use crate::silent::{ends_its_text, replay_silently};
 use command_line::SalesOptions;
 use devices::Counted;
@@ -28,7 +28,7 @@ pub fn run_sales<R: Files + Print + Eprint + AllocGlobal, I: Read + Drop>(
         return status;
     }
     match open_input(rt, options.site, input) {
-        Ok((config, input, turns)) => print_sold(rt, input, turns, &config, options),
+        Ok((config, input)) => print_sold(rt, input, &config, options),
         Err(status) => status,
     }
 }
@@ -49,17 +49,16 @@ fn refuse_history_options(rt: &impl Eprint, options: &SalesOptions<'_>) -> Resul
 /// printed then.
 fn print_sold<R: Print + Eprint + AllocGlobal, I: Read + Drop>(
     rt: &R,
-    input: I,
-    turns: u64,
+    mut input: Counted<NamedInput<I>>,
     config: &SiteConfig,
     options: SalesOptions<'_>,
 ) -> ExitCode {
-    let end = replay_silently(rt.alloc(), input, turns, config);
+    let end = replay_silently(rt.alloc(), &mut input, config);
     let Some(book) = &end.book else {
-        return exit_replay(rt, end.fault);
+        return exit_named(rt, &input, end.fault);
     };
     if !ends_its_text(&end.fault) {
-        return exit_replay(rt, end.fault);
+        return exit_named(rt, &input, end.fault);
     }
     match print_table(rt, book, options) {
         Ok(()) => exit_replay(rt, end.fault),

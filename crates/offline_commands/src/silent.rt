@@ -6,6 +6,7 @@ ghost use Rattle.forecourt_engines.specs.Replay.{is_early};
 use devices::Counted;
 use forecourt_engines::ReplayFault;
 use forecourt_engines::replay::{ReplayEnd, replay};
+use program_io::TURNS;
 use site_base::SiteConfig;
 use std::alloc::Global;
 use std::io;
@@ -14,16 +15,14 @@ use std::io::Read;
 /// Replays this input on this site without its answers.
 pub fn replay_silently<I: Read + Drop>(
     alloc: Global,
-    input: I,
-    turns: u64,
+    input: &mut Counted<I>,
     config: &SiteConfig,
 ) -> ReplayEnd
     ensures whole { is_early result.fault ≡ false
         → IfSome result.book (λ b. b.forgotten ≡ 0) }
 {
-    let mut reader = Counted::new(input);
     let mut sink = Counted::new(io::sink());
-    replay(alloc, config, &mut reader, &mut sink, turns, false)
+    replay(alloc, config, input, &mut sink, TURNS, false)
 }
 
 /// Is this the end of the input, or a fault of its text? After another one nothing is reported.

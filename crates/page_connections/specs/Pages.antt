@@ -16,8 +16,8 @@ calls_of link = (history link.connection).calls
 
 -- what the page of a book shows: just its unpaid transactions, beside what else it is told
 abbrev pub shown_of : Book → StationCounts → List PeerSession → Option (List ℕ) → Option (List ℕ)
-    → Option (List ℕ) → Option Tally → Shown
-shown_of b counts sessions at opened seal tally = record {
+    → Option (List ℕ) → Option Tally → Option (List ℕ) → Shown
+shown_of b counts sessions at opened seal tally name = record {
   book = b;
   unpaid = unpaid_sales b;
   counts = counts;
@@ -26,4 +26,5 @@ shown_of b counts sessions at opened seal tally = record {
   opened = opened;
   seal = seal;
   tally = tally;
+  name = name;
 }

@@ -36,6 +36,8 @@ pub(crate) struct PageLink {
 pub(crate) enum Progress {
     /// It goes on at once.
     GoesOn,
+    /// It has sent an answer, and makes the next one in its next turn.
+    Answered,
     /// It waits for its peer.
     Waits,
     /// It is to be closed.
@@ -117,10 +119,14 @@ impl PageLink {
             Ok(0) => Progress::Over,
             Ok(n) => {
                 self.connection.take(n);
-                if !self.connection.owes() {
-                    self.since = now;
+                if self.connection.owes() {
+                    return Progress::GoesOn;
                 }
-                Progress::GoesOn
+                self.since = now;
+                if self.connection.is_over() {
+                    return Progress::GoesOn;
+                }
+                Progress::Answered
             }
             Err(error) => progress_after(Call::of_error(&error)),
         }

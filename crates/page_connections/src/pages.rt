@@ -5,7 +5,7 @@ ghost use Rattle.site_book.specs.Unpaid.{unpaid_sales};
 ghost use Rattle.page_connections.specs.Pages.{shown_of};
 
 use crate::page_link::{PageLink, Progress};
-use crate::sizes::PAGE_CONNECTIONS;
+use crate::sizes::{LINKS_A_TURN, PAGE_CONNECTIONS, TURN_MILLISECONDS};
 use connection_calls::{ACCEPTS_A_TURN, Caller, accept, both_ways};
 use mio::net::{TcpListener, TcpStream};
 use mio::{Registry, Token};
@@ -18,7 +18,7 @@ use site_page::Page;
 use stamps::Stamp;
 use std::alloc::Global;
 use std::hash::RandomState;
-use std::time::Instant;
+use std::time::{Duration, Instant};
 
 /// The page's listener, and its connections by their places. They are lent the book, and can't
 /// change it.
@@ -32,8 +32,12 @@ pub struct Pages {
     first_key: usize,
     /// Connections may wait to be accepted.
     has_callers: bool,
-    /// A connection has a turn in this round.
+    /// A connection is ready, and waits for its turn.
     is_due: bool,
+    /// When connections had their turns last.
+    turned_at: Option<Instant>,
+    /// The place whose turn is the first one the next time.
+    next_place: usize,
 }
 
 impl Pages {
@@ -56,6 +60,8 @@ impl Pages {
             first_key,
             has_callers: false,
             is_due: false,
+            turned_at: None,
+            next_place: 0,
         })
     }
 
@@ -87,18 +93,31 @@ impl Pages {
         }
     }
 
-    /// Those that wait are accepted. Does a connection then have a turn in this round?
+    /// Those that wait are accepted. Do connections then have their turns in this round?
     pub fn accept_waiting(&mut self, registry: &Registry, now: Instant) -> bool {
         if self.has_callers {
             self.accept_all(registry, now);
         }
-        self.is_due
+        self.time_left(now) == Some(Duration::from_secs(0))
     }
 
-    /// Each connection that is ready has its turn with the page of the book, of which these are
-    /// the unpaid transactions. `counts` is what the station counts, and `sessions` are those of its
-    /// peers; `at` is what time it is; of its history, `opened` is the time of the open shift's
-    /// first row, and `seal` the last seal; `tally` is that of its rows, if there is one.
+    /// How long it is until connections have their turns, if one is ready.
+    pub fn time_left(&self, now: Instant) -> Option<Duration> {
+        if !self.is_due {
+            return None;
+        }
+        let pause = Duration::from_millis(TURN_MILLISECONDS);
+        match self.turned_at {
+            Some(turned_at) => Some(pause.saturating_sub(now.duration_since(turned_at))),
+            None => Some(Duration::from_secs(0)),
+        }
+    }
+
+    /// The connections that are ready have their turns, up to 8 of them, with the page of the book,
+    /// of which these are the unpaid transactions. `counts` is what the station counts, and
+    /// `sessions` are those of its peers; `at` is what time it is; of its history, `opened` is the
+    /// time of the open shift's first row, and `seal` the last seal; `tally` is that of its rows,
+    /// if there is one, and `name` the site's, if it has one.
     pub fn answer_due(
         &mut self,
         registry: &Registry,
@@ -110,38 +129,56 @@ impl Pages {
         opened: Option<Stamp>,
         seal: Option<&str>,
         tally: Option<&RowTally>,
+        name: Option<&str>,
         now: Instant,
     )
         requires { unpaid.now ≡ unpaid_sales book.now }
     {
         self.is_due = false;
+        self.turned_at = Some(now);
         let page = page_of(
-            self.alloc, book, unpaid, counts, sessions, at, opened, seal, tally,
+            self.alloc, book, unpaid, counts, sessions, at, opened, seal, tally, name,
         );
         self.take_turns(registry, &page, now);
     }
 
-    /// Each connection that is ready has its turn with this page.
+    /// The connections that are ready have their turns with this page, one after another from where
+    /// the last ones ended: as many as may have one at once.
     fn take_turns(&mut self, registry: &Registry, page: &Page<'_>, now: Instant) {
-        for place in 0..self.links.len() {
+        let mut left = LINKS_A_TURN;
+        for place in (self.next_place..self.links.len()).chain(0..self.next_place) {
+            if !self.is_due_at(place) {
+                continue;
+            }
+            if left == 0 {
+                self.is_due = true;
+                self.next_place = place;
+                return;
+            }
+            left -= 1;
             self.take_turn(registry, page, place, now);
         }
     }
 
-    /// The connection at this place has its turn, if it is ready. Where that is over before it
-    /// waits for its peer, it is reported once more.
+    /// Does the connection at this place wait for its turn?
+    fn is_due_at(&self, place: usize) -> bool {
+        match self.links.get(place) {
+            Some(Some(link)) => link.is_due,
+            _ => false,
+        }
+    }
+
+    /// The connection at this place has its turn. Where that is over before it waits for its peer,
+    /// it is reported once more.
     fn take_turn(&mut self, registry: &Registry, page: &Page<'_>, place: usize, now: Instant) {
         let token = self.token_of(place);
         let Some(Some(link)) = self.links.get_mut(place) else {
             return;
         };
-        if !link.is_due {
-            return;
-        }
         link.is_due = false;
         match link.take_turn(page, now) {
             Ok(Progress::Waits) => {}
-            Ok(Progress::GoesOn) => {
+            Ok(Progress::GoesOn | Progress::Answered) => {
                 let _ = registry.reregister(&mut link.stream, token, both_ways());
             }
             Ok(Progress::Over) | Err(NoMemory) => self.close_at(place),
@@ -212,7 +249,8 @@ impl Pages {
 }
 
 /// The page of a book at this time, with these unpaid transactions, what the station counts, these
-/// sessions, this time of the open shift's first row, this last seal and this tally of its rows.
+/// sessions, this time of the open shift's first row, this last seal, this tally of its rows and
+/// this name of the site.
 fn page_of<'a>(
     alloc: Global,
     book: &'a SiteBook,
@@ -223,13 +261,14 @@ fn page_of<'a>(
     opened: Option<Stamp>,
     seal: Option<&'a str>,
     tally: Option<&'a RowTally>,
+    name: Option<&'a str>,
 ) -> Page<'a>
     requires { unpaid.now ≡ unpaid_sales book.now }
     ensures { result ≡ shown_of book.now counts sessions.now at opened
-        (option_copied seal.entry) (option_copied tally.entry) }
+        (option_copied seal.entry) (option_copied tally.entry) (option_copied name.entry) }
 {
     Page::new(
-        alloc, book, unpaid, counts, sessions, at, opened, seal, tally,
+        alloc, book, unpaid, counts, sessions, at, opened, seal, tally, name,
     )
 }
 

@@ -1,5 +1,6 @@
 -- Which moves belong to what is done for a peer, or by the station itself.
-use Rattle.std.specs.Prelude.{◌≡◌, ℕ, Bool, true, false, ◌&&◌, ◌||◌, ◌==◌, ◌⊎◌, List, Option, Some, None}
+use Rattle.std.specs.Prelude.{◌≡◌, ℕ, Bool, true, false, ◌&&◌, ◌||◌, ◌==◌, ◌⊎◌, List, Option, Some}
+use Rattle.std.specs.Prelude.{None}
 use Rattle.std.specs.Prelude.{is_none, nat_lt, slice_index, ⊤}
 use Rattle.site_base.specs.declared.limits.TheConstants.{POINTS, TILLS}
 use Rattle.site_base.specs.Ranges.{is_between}

@@ -1,5 +1,6 @@
 -- The connection of a peer that comes, and those of peers that leave for it.
-use Rattle.std.specs.Prelude.{◌≡◌, ◌≢◌, ◌⊎◌, ◌==◌, ◌||◌, ℕ, Bool, true, false, List, [], ◌∷◌, Option}
+use Rattle.std.specs.Prelude.{◌≡◌, ◌≢◌, ◌⊎◌, ◌==◌, ◌||◌, ℕ, Bool, true, false, List, [], ◌∷◌}
+use Rattle.std.specs.Prelude.{Option}
 use Rattle.std.specs.Prelude.{None, get_or, ⊤}
 use Rattle.station.specs.Runs.{Leaves, Move}
 use Rattle.journal.specs.Stored.{StoredState}

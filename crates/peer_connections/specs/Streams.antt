@@ -29,8 +29,8 @@ pub record HearsStream (key : ℕ) (left left' : Option (List ℕ)) (earlier lat
   pub moves : ReachesBy (IsHearing key) earlier later
   pub read : Consumes left left' (said_in moves.moves)
 
--- The peer of this key is sent to: its connection got the front of what it is owed, and may be told,
--- and it is owed the rest still, and may be told it.
+-- The peer of this key is sent to: its connection got the front of what it is owed, and may be
+-- told, and it is owed the rest still, and may be told it.
 pub record SendsStream (key : ℕ) (got got' : Option (List ℕ)) (earlier later : StoredState)
     : Type 0 where
   pub moves : ReachesBy (IsSending key) earlier later
@@ -86,7 +86,8 @@ pub record SendsAndFollows {S : Type 0} (got : S → Option (List ℕ)) (key : �
 -- ---- of all connections
 
 -- The connection of a key is the one that was, and what it got stays. What it got more is the front
--- of what its peer was owed, and of what rows that were added since tell it; the rest is owed still.
+-- of what its peer was owed, and of what rows that were added since tell it; the rest is owed
+-- still.
 pub record GetsMore {S : Type 0} (got : S → Option (List ℕ)) (key : ℕ)
     (links links' : List (Option (Link S))) (earlier later : StationState) : Type 0 where
   pub was : has_link links key ≡ true

@@ -1,7 +1,7 @@
 //! Rows that others are told of: dispensers, and the feed's peers.
 
 ghost use Rattle.std.specs.Prelude.{◌≡◌, ◌≤◌, ◌||◌, IfSome, OnOk, false, length, slice_get};
-ghost use Rattle.std.specs.Prelude.{Some, option_copied, true};
+ghost use Rattle.std.specs.Prelude.{None, Some, option_copied, true};
 ghost use Rattle.chapters.specs.RowText.{kept_behind};
 ghost use Rattle.site_book.specs.Changes.{is_changing};
 ghost use Rattle.journal.specs.Stored.{is_all_stored, time_of};
@@ -44,6 +44,8 @@ impl ChangeWatch {
         ensures seen { HasSeen result.rows_seen book.now }
         ensures fed { HasSeen result.rows_fed book.now }
         ensures all { result.rows_fed ≡ length book.now.rows }
+        ensures unfed { result.fed ≡ None }
+        ensures untallied { result.tally ≡ None }
     {
         ChangeWatch {
             rows_seen: book.len(),
@@ -123,6 +125,7 @@ impl ChangeWatch {
     /// the feed ends.
     pub fn begin_chapter(&mut self)
         ensures fed { BeginsChapter self.old.fed self.new.fed }
+        ensures tally { self.new.tally ≡ self.old.tally }
         ensures seen { self.new.rows_seen ≡ self.old.rows_seen }
         ensures read { self.new.rows_fed ≡ self.old.rows_fed }
         ensures changes { self.new.has_changes ≡ self.old.has_changes }
@@ -143,6 +146,7 @@ impl ChangeWatch {
         ensures all { self.new.rows_seen ≡ length book.now.rows }
         ensures read { self.new.rows_fed ≡ self.old.rows_fed }
         ensures fed { self.new.fed ≡ self.old.fed }
+        ensures tally { self.new.tally ≡ self.old.tally }
     {
         let first = self.rows_seen;
         self.rows_seen = book.len();
@@ -160,6 +164,7 @@ impl ChangeWatch {
         ensures seen { self.new.rows_seen ≡ self.old.rows_seen }
         ensures read { self.new.rows_fed ≡ self.old.rows_fed }
         ensures fed { self.new.fed ≡ self.old.fed }
+        ensures tally { self.new.tally ≡ self.old.tally }
         ensures noted { book.now.forgotten ≤ place → IfSome (slice_get book.now.rows place)
             (λ row. is_changing row ≡ true → self.new.has_changes ≡ true) }
     {
@@ -174,6 +179,7 @@ impl ChangeWatch {
         ensures seen { self.new.rows_seen ≡ self.old.rows_seen }
         ensures read { self.new.rows_fed ≡ self.old.rows_fed }
         ensures fed { self.new.fed ≡ self.old.fed }
+        ensures tally { self.new.tally ≡ self.old.tally }
     {
         if is_changing(row) {
             self.has_changes = true;
@@ -189,6 +195,7 @@ impl ChangeWatch {
         ensures seen { self.new.rows_seen ≡ self.old.rows_seen }
         ensures read { self.new.rows_fed ≡ self.old.rows_fed }
         ensures fed { self.new.fed ≡ self.old.fed }
+        ensures tally { self.new.tally ≡ self.old.tally }
     {
         let released = self.released;
         self.released = PointSet::new();
@@ -202,6 +209,7 @@ impl ChangeWatch {
         ensures seen { self.new.rows_seen ≡ self.old.rows_seen }
         ensures read { self.new.rows_fed ≡ self.old.rows_fed }
         ensures fed { self.new.fed ≡ self.old.fed }
+        ensures tally { self.new.tally ≡ self.old.tally }
     {
         let had_changes = self.has_changes;
         self.has_changes = false;

@@ -109,8 +109,8 @@ impl<D: Disk, S: PeerSocket> Connections<D, S> {
         }
     }
 
-    /// A peer that was sent all is told that nothing more will come. Can it only take, or nothing at
-    /// all?
+    /// A peer that was sent all is told that nothing more will come. Can it only take, or nothing
+    /// at all?
     #[tactic(auto, using(crate::proofs::Sent::sent_to, crate::proofs::Known::known))]
     fn shut(&mut self, key: usize) -> bool
         requires ended { lasts_at self.old.stored.station key ≡ false }

@@ -3,7 +3,8 @@
 
 ghost use Rattle.std.specs.Prelude.{◌≡◌, ◌<◌, ◌≤◌, ◌⊎◌, IfOk, IfSome, None, OnErr, Some, false, ℕ};
 ghost use Rattle.std.specs.Prelude.{is_some, true};
-ghost use Rattle.peer_connections.specs.Allowed.{IsArrival, IsSameOrLeft, is_place_of, is_served_at};
+ghost use Rattle.peer_connections.specs.Allowed.{IsArrival, IsSameOrLeft, is_place_of};
+ghost use Rattle.peer_connections.specs.Allowed.{is_served_at};
 ghost use Rattle.peer_connections.specs.Coming.{Dismisses, IsOver, IsTurnedAway, Welcomes};
 ghost use Rattle.peer_connections.specs.Links.{ArePaired, AwaitsLink, ComesTo, OthersStay};
 ghost use Rattle.peer_connections.specs.Links.{StaysOrGoes};

@@ -9,10 +9,10 @@ ghost use Rattle.peer_connections.specs.Sending.{HasSeen, KeepsChanges};
 use crate::change_watch::ChangeWatch;
 use journal::{Disk, DiskFault, StoredStation};
 
-/// Makes room in the book for the rows of one read: where there may be none, each row is stored, the
-/// feed reads those that are new, and all are forgotten. The rows so far are looked at before. The
-/// site goes on, and so does what is unpaid. Where storing fails, or memory is wanting, nothing is
-/// forgotten.
+/// Makes room in the book for the rows of one read: where there may be none, each row is stored,
+/// the feed reads those that are new, and all are forgotten. The rows so far are looked at before.
+/// The site goes on, and so does what is unpaid. Where storing fails, or memory is wanting, nothing
+/// is forgotten.
 #[tactic(auto, using(crate::proofs::Seeing::seen))]
 pub(crate) fn make_room<D: Disk>(
     stored: &mut StoredStation<D>,

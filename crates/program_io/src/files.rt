@@ -1,14 +1,16 @@
 //! Files that a command reads whole.
 
 ghost use Rattle.std.specs.Prelude.{◌≡◌, IfErr, IfOk, Ok};
+ghost use Rattle.std.specs.Process.{exit_status};
 ghost use Rattle.program_io.specs.Statuses.{IsFailed};
 ghost use Rattle.site_file.specs.SiteFile.{config_of};
 
 use crate::exit::{FAULT, exit_fault, exit_no_memory, exit_with};
 use site_base::SiteConfig;
 use site_file::{ConfigFault, read_config};
+use site_file_words::explain_fault;
 use std::fs;
-use std::io::ErrorKind;
+use std::io::{Error, ErrorKind};
 use std::process::ExitCode;
 use std::rt::Files;
 
@@ -36,7 +38,20 @@ pub fn read_site_file<R: Files + Eprint + AllocGlobal>(
     match read_config(rt.alloc(), &octets) {
         Ok(config) => Ok((config, octets)),
         Err(ConfigFault::NoMemory) => Err(exit_no_memory(rt)),
-        Err(fault) => Err(exit_fault(rt, fault, FAULT)),
+        Err(fault) => Err(exit_site_fault(rt, &octets, fault)),
+    }
+}
+
+/// Prints a site file's fault, and below it where it is, what was found and what was expected. If
+/// there is no memory for that, the fault stands alone.
+fn exit_site_fault<R: Eprint + AllocGlobal>(rt: &R, octets: &[u8], fault: ConfigFault) -> ExitCode
+    ensures { exit_status result ≡ FAULT }
+{
+    let explanation = explain_fault(rt.alloc(), octets, &fault);
+    let code = exit_fault(rt, fault, FAULT);
+    match explanation {
+        Ok(text) => exit_with(eprint!(rt; "{text}"), FAULT),
+        Err(_) => code,
     }
 }
 
@@ -47,7 +62,29 @@ pub fn read_file<R: Files + Eprint + AllocGlobal>(rt: &R, name: &str) -> Result<
     match fs::read(rt, name) {
         Ok(octets) => Ok(octets),
         Err(error) if error.kind() == ErrorKind::OutOfMemory => Err(exit_no_memory(rt)),
-        Err(_) => Err(exit_with(eprintln!(rt; "cannot read {name}"), FAULT)),
+        Err(error) => Err(exit_unread(rt, name, error)),
+    }
+}
+
+/// Says that a file can't be read, and why, in the system's words. If there is no memory for them,
+/// they are left out.
+fn exit_unread<R: Eprint + AllocGlobal>(rt: &R, name: &str, error: Error) -> ExitCode
+    ensures { exit_status result ≡ FAULT }
+{
+    match format!(in rt.alloc(); "{error}") {
+        Ok(text) => {
+            let words = without_number(text.as_str());
+            exit_with(eprintln!(rt; "cannot read {name}: {words}"), FAULT)
+        }
+        Err(_) => exit_with(eprintln!(rt; "cannot read {name}"), FAULT),
+    }
+}
+
+/// The words of an error of the system, without the error's number behind them.
+fn without_number(text: &str) -> &str {
+    match text.split_once(" (os error ") {
+        Some((words, _)) => words,
+        None => text,
     }
 }
 

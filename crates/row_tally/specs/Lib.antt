@@ -1,3 +1,6 @@
+pub mod Jumps
+pub mod Moments
 pub mod Readings
 pub mod Runs
+pub mod ShiftTimes
 pub mod Tally

@@ -16,6 +16,12 @@ reading_told (Flow p n reading) = Some (record { point = p; nozzle = n; reading 
 reading_told (HangUp p n reading) = Some (record { point = p; nozzle = n; reading = reading })
 reading_told event = None
 
+-- the reading that a replaced meter begins with, and of which nozzle
+abbrev pub replaced_told : Event → Option MeterReading
+replaced_told (ReplaceMeter p n reading) =
+    Some (record { point = p; nozzle = n; reading = reading })
+replaced_told event = None
+
 -- a row's reply refuses its event so
 abbrev pub refusal_told : Result Answer Refusal → Option Refusal
 refusal_told (Ok answer) = None

@@ -62,8 +62,8 @@ settled_run row p n [] = []
 settled_run row p n (run ∷ runs) =
     if is_of_nozzle p n run then run_settled row run ∷ [] else settled_run row p n runs
 
--- the open runs, once a reading is refused: where its meter refuses it, it stands in a run; where it
--- is refused for another reason, they are as before
+-- the open runs, once a reading is refused: where its meter refuses it, it stands in a run; where
+-- it is refused for another reason, they are as before
 abbrev pub runs_refused : RowPlace → ℕ → Refusal → MeterReading → List RefusedRun → List RefusedRun
 runs_refused place expected refusal x runs =
     if is_of_meter (Some refusal) then with_refused place x expected refusal runs else runs

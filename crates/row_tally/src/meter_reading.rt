@@ -1,7 +1,7 @@
 //! The readings that events tell.
 
 ghost use Rattle.std.specs.Prelude.{◌≡◌};
-ghost use Rattle.row_tally.specs.Readings.{reading_told};
+ghost use Rattle.row_tally.specs.Readings.{reading_told, replaced_told};
 
 use site_base::{Event, FpNo, Millilitres, NozzleNo};
 
@@ -26,6 +26,20 @@ impl MeterReading {
             | Event::Lift(point, nozzle, reading)
             | Event::Flow(point, nozzle, reading)
             | Event::HangUp(point, nozzle, reading) => Some(MeterReading {
+                point: *point,
+                nozzle: *nozzle,
+                reading: *reading,
+            }),
+            _ => None,
+        }
+    }
+
+    /// The reading with which an event begins a replaced meter, if it does.
+    pub(crate) fn begun_by(event: &Event) -> Option<MeterReading>
+        ensures { result ≡ replaced_told event.now }
+    {
+        match event {
+            Event::ReplaceMeter(point, nozzle, reading) => Some(MeterReading {
                 point: *point,
                 nozzle: *nozzle,
                 reading: *reading,

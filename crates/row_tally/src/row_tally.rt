@@ -5,15 +5,20 @@ ghost use Rattle.site_base.specs.Refusals.{refusal_number};
 ghost use Rattle.site_base.specs.declared.limits.TheConstants.{NOZZLE_CELLS};
 ghost use Rattle.meters.specs.Places.{nozzle_cell};
 ghost use Rattle.row_tally.specs.declared.row_tally.TheConstants.{REFUSAL_CELLS};
-ghost use Rattle.row_tally.specs.Tally.{counted, last_reading, no_rows, refused_as};
+ghost use Rattle.row_tally.specs.Readings.{replaced_told};
+ghost use Rattle.row_tally.specs.Tally.{counted, last_reading, no_rows, refused_as, replaced};
+ghost use Rattle.row_tally.specs.Tally.{replaced_with};
 ghost use Rattle.row_tally.specs.Tally.{told_accepted, told_refused, told_with, with_row};
 
+use crate::meter_jumps::MeterJumps;
 use crate::meter_reading::MeterReading;
+use crate::moments::Moments;
 use crate::open_runs::OpenRuns;
 use crate::refused_run::{RefusedRun, RowPlace};
 use meters::Meters;
 use site_base::{
-    FpNo, Millilitres, NOZZLE_CELLS, NOZZLES, NoMemory, NozzleNo, Refusal, Reply, Row, SiteConfig,
+    Event, FpNo, Millilitres, NOZZLE_CELLS, NOZZLES, NoMemory, NozzleNo, Refusal, Reply, Row,
+    SiteConfig,
 };
 use stamps::Stamp;
 use std::alloc::Global;
@@ -31,9 +36,12 @@ pub struct RowTally {
     rows: u64,
     /// The last reading of each nozzle that a row tells and that was accepted, in its cell.
     readings: [Option<Millilitres>; NOZZLE_CELLS],
+    /// How far the readings of each nozzle jumped as its meter was replaced, in its cell.
+    jumps: [MeterJumps; NOZZLE_CELLS],
     /// So many rows were refused with refusal n: in cell n - 1.
     refused: [u64; REFUSAL_CELLS],
     runs: OpenRuns,
+    moments: Moments,
 }
 
 impl Model for RowTally {
@@ -45,8 +53,10 @@ impl Model for RowTally {
       opening = t.opening;
       rows = t.rows;
       readings = t.readings;
+      jumps = t.jumps;
       refused = t.refused;
       runs = t.runs;
+      moments = t.moments;
     } };
 }
 
@@ -60,8 +70,10 @@ impl RowTally {
             opening,
             rows: 0,
             readings: [None; NOZZLE_CELLS],
+            jumps: [MeterJumps::NONE; NOZZLE_CELLS],
             refused: [0; REFUSAL_CELLS],
             runs: OpenRuns::new(alloc),
+            moments: Moments::new(alloc),
         })
     }
 
@@ -73,6 +85,8 @@ impl RowTally {
             row: self.rows,
             at: *time,
         };
+        self.moments.read(time, row)?;
+        self.note_replacement(&row.event, &row.reply);
         if let Some(told) = MeterReading::told_by(&row.event) {
             self.note(&place, &row.reply, &told)?;
         }
@@ -103,6 +117,40 @@ impl RowTally {
         ensures { result.now ≡ self.now.runs }
     {
         self.runs.as_slice()
+    }
+
+    /// How far the readings of each nozzle that a site can have jumped as its meter was replaced:
+    /// in the order of points, and of their nozzles.
+    pub fn jumps(&self) -> &[MeterJumps]
+        ensures { result.now ≡ self.now.jumps }
+    {
+        &self.jumps
+    }
+
+    /// When points called, what isn't cleared yet was sold, and shifts were opened and closed.
+    pub fn moments(&self) -> &Moments
+        ensures { result.now ≡ self.now.moments }
+    {
+        &self.moments
+    }
+
+    /// This event was replied to so: it may replace a meter.
+    fn note_replacement(&mut self, event: &Event, reply: &Reply)
+        ensures { self.new ≡ replaced_with (replaced_told event.now) reply.now self.old }
+    {
+        match (MeterReading::begun_by(event), reply) {
+            (Some(told), Ok(_)) => self.replace(&told),
+            _ => {}
+        }
+    }
+
+    /// A meter was replaced, and begins with this reading.
+    fn replace(&mut self, told: &MeterReading)
+        ensures { self.new ≡ replaced told.now self.old }
+    {
+        let before = self.last_reading(told.point, told.nozzle);
+        let cell = cell_of(told.point, told.nozzle);
+        self.jumps[cell] = self.jumps[cell].with(before, told.reading);
     }
 
     /// A row with a reading was replied to so.

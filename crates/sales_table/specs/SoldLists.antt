@@ -28,8 +28,8 @@ abbrev pub sold_text : Form → Book → List TimedSale → List ℕ
 sold_text form b sales =
     head_text form (sale_titles ++ time_titles) ++ flat_map (sold_line form b) sales
 
--- The table is the filter: with a span, it is the table of just those of the sales that were cleared
--- in it.
+-- The table is the filter: with a span, it is the table of just those of the sales that were
+-- cleared in it.
 abbrev pub table_of_span : Form → Book → Option TimeSpan → List TimedSale → List ℕ
 table_of_span form b span sales = sold_text form b (asked_sales span sales)
 

@@ -7,8 +7,8 @@ use csv::WriterBuilder;
 use site_base::NoMemory;
 use std::alloc::Global;
 
-/// The line of these fields and these more, with its line feed, as the default writer of the crate `csv` spells
-/// it. The writer is told to write into memory, so what it fails for is memory.
+/// The line of these fields and these more, with its line feed, as the default writer of the crate
+/// `csv` spells it. The writer is told to write into memory, so what it fails for is memory.
 pub fn csv_line<'a>(
     alloc: Global,
     fields: &'a [&'a [u8]],

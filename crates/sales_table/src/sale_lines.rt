@@ -37,8 +37,8 @@ pub fn sale_titles(alloc: Global, more: &[&[u8]]) -> Result<Vec<u8>, NoMemory>
     )
 }
 
-/// The line of a sale, in the order of the titles, with these fields more. A number that isn't there
-/// is an empty field.
+/// The line of a sale, in the order of the titles, with these fields more. A number that isn't
+/// there is an empty field.
 pub fn sale_line(
     alloc: Global,
     products: &[ProductEntry],

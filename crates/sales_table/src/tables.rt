@@ -164,8 +164,8 @@ pub(crate) fn put_timed(
     Ok(())
 }
 
-/// The line of a sale with its times, as comma-separated values. A time that isn't known is an empty
-/// field.
+/// The line of a sale with its times, as comma-separated values. A time that isn't known is an
+/// empty field.
 fn timed_line(
     alloc: Global,
     products: &[ProductEntry],

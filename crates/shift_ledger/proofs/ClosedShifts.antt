@@ -25,9 +25,11 @@ pub is_opened_empty : IsOpenedEmpty
 is_opened_empty = record {
   first_till = λ t. nothing TILL_CELLS t (0, 0);
   first_product = λ q. nothing PRODUCT_CELLS q 0;
+  first_product_cents = λ q. nothing PRODUCT_CELLS q 0;
   first_drawn = λ q. nothing PRODUCT_CELLS q 0;
   till = λ t s. nothing TILL_CELLS t (0, 0);
   product = λ q s. nothing PRODUCT_CELLS q 0;
+  product_cents = λ q s. nothing PRODUCT_CELLS q 0;
   drawn = λ q s. nothing PRODUCT_CELLS q 0;
 }
 

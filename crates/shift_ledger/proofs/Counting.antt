@@ -9,7 +9,8 @@ use Rattle.site_base.proofs.Numbering.{numbered_within, numbered_with_same, numb
 use Rattle.site_base.proofs.Numbering.{length-with_numbered}
 use Rattle.shift_ledger.specs.declared.row.ShiftRow.{ShiftRow}
 use Rattle.shift_ledger.specs.Figures.{till_figures, product_figure, adjusted_figure}
-use Rattle.shift_ledger.specs.Figures.{one_clear_more, empty_figures, with_clear, with_draw}
+use Rattle.shift_ledger.specs.Figures.{product_cents_figure, one_clear_more, empty_figures}
+use Rattle.shift_ledger.specs.Figures.{with_clear, with_draw}
 use Rattle.shift_ledger.specs.Shifts.{Shifts}
 use Rattle.shift_ledger.specs.Laws.{ShiftChange, clears, draws, closes, after_change, IsRow}
 use Rattle.shift_ledger.specs.Laws.{HaveRows, IsCounted, IsDrawn, HasEveryFigure}
@@ -39,6 +40,9 @@ is_counted = record {
   by_product = λ t q ml cents r s row low high.
       written q r s.current.products (product_figure q s.current + ml) 0 low
       (omega (arith, row.products));
+  product_cents = λ t q ml cents r s row low high.
+      written q r s.current.product_cents (product_cents_figure q s.current + cents) 0 low
+      (omega (arith, row.product_cents));
   drawn = λ t q ml cents r s. refl;
   number = λ t q ml cents s. refl;
 }
@@ -50,6 +54,7 @@ is_drawn = record {
       (omega (arith, row.adjusted));
   tills = λ q ml u s. refl;
   cleared = λ q ml r s. refl;
+  product_cents = λ q ml r s. refl;
   number = λ q ml s. refl;
 }
 
@@ -57,6 +62,7 @@ row_after : (t q ml cents : ℕ) (row : ShiftRow) → IsRow row → IsRow (with_
 row_after t q ml cents row is = record {
   tills = length-with_numbered t _ row.tills ∙ is.tills;
   products = length-with_numbered q _ row.products ∙ is.products;
+  product_cents = length-with_numbered q _ row.product_cents ∙ is.product_cents;
   adjusted = is.adjusted;
 }
 
@@ -64,11 +70,12 @@ row_drawn : (q ml : ℕ) (row : ShiftRow) → IsRow row → IsRow (with_draw q m
 row_drawn q ml row is = record {
   tills = is.tills;
   products = is.products;
+  product_cents = is.product_cents;
   adjusted = length-with_numbered q _ row.adjusted ∙ is.adjusted;
 }
 
 pub empty_row : IsRow empty_figures
-empty_row = record { tills = refl; products = refl; adjusted = refl }
+empty_row = record { tills = refl; products = refl; product_cents = refl; adjusted = refl }
 
 alone : (row : ShiftRow) → IsRow row → All IsRow (row ∷ [])
 alone row is zero d within = is

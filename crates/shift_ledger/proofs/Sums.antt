@@ -9,12 +9,13 @@ use Rattle.site_base.specs.declared.limits.TheConstants.{TILL_CELLS, PRODUCT_CEL
 use Rattle.site_base.proofs.Numbering.{numbered_push_here, numbered_push_other, numbered_next}
 use Rattle.shift_ledger.specs.declared.row.ShiftRow.{ShiftRow}
 use Rattle.shift_ledger.specs.Figures.{till_figures, product_figure, adjusted_figure}
-use Rattle.shift_ledger.specs.Figures.{one_clear_more, empty_figures, with_clear, with_draw}
+use Rattle.shift_ledger.specs.Figures.{product_cents_figure, one_clear_more, empty_figures}
+use Rattle.shift_ledger.specs.Figures.{with_clear, with_draw}
 use Rattle.shift_ledger.specs.Shifts.{Shifts, first_shift, open_number, figures_of, after_close}
 use Rattle.shift_ledger.specs.Shifts.{after_clear, after_draw}
 use Rattle.shift_ledger.specs.Laws.{ShiftChange, clears, draws, closes, after_changes, IsRow}
 use Rattle.shift_ledger.specs.Laws.{HaveRows, IsInRange, noted_in, clear_noted, cents_noted}
-use Rattle.shift_ledger.specs.Laws.{clear_of, draw_of, AreFiguresSums}
+use Rattle.shift_ledger.specs.Laws.{clear_of, product_cents_noted, draw_of, AreFiguresSums}
 use Rattle.shift_ledger.proofs.Counting.{has_every_figure, is_counted, is_drawn}
 use Rattle.shift_ledger.proofs.ClosedShifts.{do_stay, next, nothing}
 
@@ -130,7 +131,7 @@ summed figure weight adds (closes ∷ changes) n s rows ranges =
     ap (λ (k : ℕ). sum_by weight (noted_in n k changes)) (next s) in
     omega (arith, rest, before, number)
 
--- ---- the four figures
+-- ---- the five figures
 
 chosen : (b : Bool) (old more : ℕ)
     → (if b then old + more else old) ≡ old + (if b then more else 0)
@@ -179,6 +180,13 @@ cleared_add r (clears t q ml cents) s is_row (low, high, product, most) =
 cleared_add r (draws q ml) s is_row range = omega arith
 cleared_add r closes s is_row range = omega arith
 
+product_cents_add : (r : ℕ) → Adds (product_cents_figure r) (product_cents_noted r)
+product_cents_add r (clears t q ml cents) s is_row (low, high, product, most) =
+    is_counted.product_cents t q ml cents r s is_row product most
+    ∙ of_product (r == q) q r (λ k. product_cents_figure k s.current) cents (same_number r q)
+product_cents_add r (draws q ml) s is_row range = omega arith
+product_cents_add r closes s is_row range = omega arith
+
 drawn_add : (r : ℕ) → Adds (adjusted_figure r) (draw_of r)
 drawn_add r (clears t q ml cents) s is_row range = omega arith
 drawn_add r (draws q ml) s is_row (low, high) =
@@ -226,6 +234,8 @@ are_figures_sums changes n row ranges is = record {
       (ap (λ (x : ℕ × ℕ). x.1) (nothing TILL_CELLS t (0, 0))) changes n row ranges is;
   products = λ q. from_nothing (product_figure q) (clear_of q) (cleared_add q)
       (nothing PRODUCT_CELLS q 0) changes n row ranges is;
+  product_cents = λ q. from_nothing (product_cents_figure q) (product_cents_noted q)
+      (product_cents_add q) (nothing PRODUCT_CELLS q 0) changes n row ranges is;
   adjusted = λ q. from_nothing (adjusted_figure q) (draw_of q) (drawn_add q)
       (nothing PRODUCT_CELLS q 0) changes n row ranges is;
 }

@@ -1,6 +1,7 @@
 -- Worked figures, by computing the definitions: clears and draws of two shifts.
 use Rattle.std.proofs.Common.{◌≡◌, Some, None, false, refl}
-use Rattle.shift_ledger.specs.Figures.{till_figures, product_figure, adjusted_figure, empty_figures}
+use Rattle.shift_ledger.specs.Figures.{till_figures, product_figure, product_cents_figure}
+use Rattle.shift_ledger.specs.Figures.{adjusted_figure, empty_figures}
 use Rattle.shift_ledger.specs.Shifts.{Shifts, first_shift, open_number, is_last, figures_of}
 use Rattle.shift_ledger.specs.Shifts.{after_close, after_clear, after_draw}
 
@@ -25,11 +26,17 @@ till_31 = refl
 cleared_of_diesel : product_figure 1 first_day.current ≡ 10000
 cleared_of_diesel = refl
 
+cents_of_diesel : product_cents_figure 1 first_day.current ≡ 1500
+cents_of_diesel = refl
+
 drawn_of_diesel : adjusted_figure 1 first_day.current ≡ 20000
 drawn_of_diesel = refl
 
 cleared_of_the_last_product : product_figure 8 first_day.current ≡ 7
 cleared_of_the_last_product = refl
+
+cents_of_the_last_product : product_cents_figure 8 first_day.current ≡ 2
+cents_of_the_last_product = refl
 
 drawn_of_the_last_product : adjusted_figure 8 first_day.current ≡ 0
 drawn_of_the_last_product = refl
@@ -42,6 +49,9 @@ drawn_in_the_second = refl
 
 nothing_cleared_in_the_second : product_figure 1 second_day.current ≡ 0
 nothing_cleared_in_the_second = refl
+
+no_cents_in_the_second : product_cents_figure 1 second_day.current ≡ 0
+no_cents_in_the_second = refl
 
 first_stays : figures_of 1 second_day ≡ Some first_day.current
 first_stays = refl

@@ -12,6 +12,10 @@ till_figures t row = unwrap_or (member t row.tills) (0, 0)
 abbrev pub product_figure : ℕ → ShiftRow → ℕ
 product_figure q row = unwrap_or (member q row.products) 0
 
+-- the cents of what was cleared of a product
+abbrev pub product_cents_figure : ℕ → ShiftRow → ℕ
+product_cents_figure q row = unwrap_or (member q row.product_cents) 0
+
 -- the millilitres that tests drew of a product
 abbrev pub adjusted_figure : ℕ → ShiftRow → ℕ
 adjusted_figure q row = unwrap_or (member q row.adjusted) 0
@@ -21,6 +25,7 @@ abbrev pub empty_figures : ShiftRow
 empty_figures = record {
   tills = replicate TILL_CELLS (0, 0);
   products = replicate PRODUCT_CELLS 0;
+  product_cents = replicate PRODUCT_CELLS 0;
   adjusted = replicate PRODUCT_CELLS 0;
 }
 
@@ -33,6 +38,7 @@ abbrev pub with_clear : ℕ → ℕ → ℕ → ℕ → ShiftRow → ShiftRow
 with_clear t q ml cents row = record {
   tills = with_numbered t (one_clear_more cents (till_figures t row)) row.tills;
   products = with_numbered q (product_figure q row + ml) row.products;
+  product_cents = with_numbered q (product_cents_figure q row + cents) row.product_cents;
   adjusted = row.adjusted;
 }
 
@@ -46,6 +52,7 @@ pub record FitsClear (t q ml cents : ℕ) (row : ShiftRow) : Type 0 where
   pub clears : (till_figures t row).0 + 1 < 2 ^ 64
   pub cents_sum : (till_figures t row).1 + cents < 2 ^ 64
   pub millilitres : product_figure q row + ml < 2 ^ 64
+  pub product_cents : product_cents_figure q row + cents < 2 ^ 64
 
 -- the sum that one more draw raises stays in 64 bits
 abbrev pub FitsDraw : ℕ → ℕ → ShiftRow → Type 0

@@ -5,7 +5,7 @@ use Rattle.std.specs.List.{All, AllByRecursion}
 use Rattle.site_base.specs.declared.limits.TheConstants.{TILL_CELLS, PRODUCT_CELLS}
 use Rattle.shift_ledger.specs.declared.row.ShiftRow.{ShiftRow}
 use Rattle.shift_ledger.specs.Figures.{till_figures, product_figure, adjusted_figure}
-use Rattle.shift_ledger.specs.Figures.{one_clear_more}
+use Rattle.shift_ledger.specs.Figures.{one_clear_more, product_cents_figure}
 use Rattle.shift_ledger.specs.Shifts.{Shifts, first_shift, open_number, figures_of, after_close}
 use Rattle.shift_ledger.specs.Shifts.{after_clear, after_draw}
 
@@ -31,6 +31,7 @@ after_changes (change ∷ changes) s = after_changes changes (after_change chang
 pub record IsRow (row : ShiftRow) : Type 0 where
   pub tills : length row.tills ≡ TILL_CELLS
   pub products : length row.products ≡ PRODUCT_CELLS
+  pub product_cents : length row.product_cents ≡ PRODUCT_CELLS
   pub adjusted : length row.adjusted ≡ PRODUCT_CELLS
 
 -- so have the rows of the closed shifts and of the open one
@@ -39,8 +40,8 @@ pub record HaveRows (s : Shifts) : Type 0 where
   pub current : IsRow s.current
 
 -- What a clear does to the open shift's figures. Its till's count rises by one and that till's
--- cents by its own; its product's millilitres rise by its own. Every other till's and product's
--- stay, and so does what tests drew.
+-- cents by its own; its product's millilitres and cents rise by its own. Every other till's and
+-- product's stay, and so does what tests drew.
 pub record IsCounted : Type 0 where
   pub by_till : (t q ml cents u : ℕ) (s : Shifts) → IsRow s.current → 1 ≤ t → t ≤ TILL_CELLS
       → till_figures u (after_clear t q ml cents s).current
@@ -49,6 +50,11 @@ pub record IsCounted : Type 0 where
   pub by_product : (t q ml cents r : ℕ) (s : Shifts) → IsRow s.current → 1 ≤ q → q ≤ PRODUCT_CELLS
       → product_figure r (after_clear t q ml cents s).current
       ≡ (if r == q then product_figure q s.current + ml else product_figure r s.current)
+  pub product_cents : (t q ml cents r : ℕ) (s : Shifts) → IsRow s.current → 1 ≤ q
+      → q ≤ PRODUCT_CELLS
+      → product_cents_figure r (after_clear t q ml cents s).current
+      ≡ (if r == q then product_cents_figure q s.current + cents
+      else product_cents_figure r s.current)
   pub drawn : (t q ml cents r : ℕ) (s : Shifts)
       → adjusted_figure r (after_clear t q ml cents s).current ≡ adjusted_figure r s.current
   pub number : (t q ml cents : ℕ) (s : Shifts)
@@ -64,6 +70,8 @@ pub record IsDrawn : Type 0 where
       → till_figures u (after_draw q ml s).current ≡ till_figures u s.current
   pub cleared : (q ml r : ℕ) (s : Shifts)
       → product_figure r (after_draw q ml s).current ≡ product_figure r s.current
+  pub product_cents : (q ml r : ℕ) (s : Shifts)
+      → product_cents_figure r (after_draw q ml s).current ≡ product_cents_figure r s.current
   pub number : (q ml : ℕ) (s : Shifts) → open_number (after_draw q ml s) ≡ open_number s
 
 -- The open shift's row is shown under its number, and a close leaves it there as it was; the next
@@ -80,9 +88,11 @@ pub record DoStay : Type 0 where
 pub record IsOpenedEmpty : Type 0 where
   pub first_till : (t : ℕ) → till_figures t first_shift.current ≡ (0, 0)
   pub first_product : (q : ℕ) → product_figure q first_shift.current ≡ 0
+  pub first_product_cents : (q : ℕ) → product_cents_figure q first_shift.current ≡ 0
   pub first_drawn : (q : ℕ) → adjusted_figure q first_shift.current ≡ 0
   pub till : (t : ℕ) (s : Shifts) → till_figures t (after_close s).current ≡ (0, 0)
   pub product : (q : ℕ) (s : Shifts) → product_figure q (after_close s).current ≡ 0
+  pub product_cents : (q : ℕ) (s : Shifts) → product_cents_figure q (after_close s).current ≡ 0
   pub drawn : (q : ℕ) (s : Shifts) → adjusted_figure q (after_close s).current ≡ 0
 
 -- the rows of the first shift have every figure, and each change leaves rows that have
@@ -120,6 +130,11 @@ abbrev pub clear_of : ℕ → ShiftChange → ℕ
 clear_of r (clears t q ml cents) = if r == q then ml else 0
 clear_of r change = 0
 
+-- the cents of a clear of this product
+abbrev pub product_cents_noted : ℕ → ShiftChange → ℕ
+product_cents_noted r (clears t q ml cents) = if r == q then cents else 0
+product_cents_noted r change = 0
+
 -- the millilitres of a draw of this product
 abbrev pub draw_of : ℕ → ShiftChange → ℕ
 draw_of r (draws q ml) = if r == q then ml else 0
@@ -130,6 +145,7 @@ pub record IsSumOf (noted : List ShiftChange) (row : ShiftRow) : Type 0 where
   pub clears : (t : ℕ) → (till_figures t row).0 ≡ sum_by (clear_noted t) noted
   pub cents : (t : ℕ) → (till_figures t row).1 ≡ sum_by (cents_noted t) noted
   pub products : (q : ℕ) → product_figure q row ≡ sum_by (clear_of q) noted
+  pub product_cents : (q : ℕ) → product_cents_figure q row ≡ sum_by (product_cents_noted q) noted
   pub adjusted : (q : ℕ) → adjusted_figure q row ≡ sum_by (draw_of q) noted
 
 -- Whatever is cleared, drawn and closed from the first shift on: the figures of each shift are the

@@ -5,7 +5,7 @@ ghost use Rattle.shift_ledger.specs.Laws.{AreFiguresSums, DoStay, HasEveryFigure
 ghost use Rattle.shift_ledger.specs.Laws.{IsDrawn, IsOpenedEmpty};
 
 /// A clear raises in the open shift its till's count by one and that till's cents by its own, and
-/// its product's millilitres by its own. Every other till's figures stay, and every other
+/// its product's millilitres and cents by its own. Every other till's figures stay, and every other
 /// product's, and so does what tests drew.
 pub fn a_clear_counts()
     ensures { IsCounted }
@@ -24,7 +24,7 @@ pub fn closed_shifts_stay()
 {}
 
 /// Shift 1, and each shift that a close opens, is empty: no till has a clear or cents there, and no
-/// product millilitres, cleared or drawn.
+/// product millilitres, cleared or drawn, or cents.
 pub fn shifts_open_empty()
     ensures { IsOpenedEmpty }
 {}
@@ -36,8 +36,9 @@ pub fn has_every_figure()
 {}
 
 /// Whatever is cleared, drawn and closed from the first shift on: of each shift, closed or open,
-/// the clears of each till and their cents, and the millilitres cleared and drawn of each product,
-/// are the count and the sums of what was noted while the shift was open, and of nothing else.
+/// the clears of each till and their cents, and of each product the millilitres cleared, their
+/// cents and the millilitres drawn, are the count and the sums of what was noted while the shift
+/// was open, and of nothing else.
 pub fn figures_are_sums()
     ensures { AreFiguresSums }
 {}

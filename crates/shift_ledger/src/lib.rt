@@ -1,5 +1,6 @@
 //! The figures of a site's shifts: per till the clears and their cents, per product the millilitres
-//! cleared and those drawn by tests, of each closed shift and of the open one.
+//! cleared, their cents, and the millilitres drawn by tests, of each closed shift and of the open
+//! one.
 #![tactic(auto)]
 
 mod book;

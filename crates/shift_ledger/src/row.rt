@@ -14,6 +14,8 @@ pub struct ShiftRow {
     pub tills: [(u64, u64); TILL_CELLS],
     /// Of each product, from 1 on: the millilitres that were cleared.
     pub products: [u64; PRODUCT_CELLS],
+    /// Of each product, from 1 on: the cents of what was cleared.
+    pub product_cents: [u64; PRODUCT_CELLS],
     /// Of each product, from 1 on: the millilitres that tests drew.
     pub adjusted: [u64; PRODUCT_CELLS],
 }
@@ -26,6 +28,7 @@ impl ShiftRow {
         ShiftRow {
             tills: [(0, 0); TILL_CELLS],
             products: [0; PRODUCT_CELLS],
+            product_cents: [0; PRODUCT_CELLS],
             adjusted: [0; PRODUCT_CELLS],
         }
     }
@@ -41,6 +44,7 @@ impl ShiftRow {
         self.tills[till] = (clears + 1, sum + cents);
         let product = q.cell();
         self.products[product] += ml;
+        self.product_cents[product] += cents;
     }
 
     /// Adds one draw of a test: of this product, so many millilitres. The sum stays in u64.

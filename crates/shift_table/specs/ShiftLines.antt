@@ -1,11 +1,15 @@
 -- A shift as a line of text.
-use Rattle.std.specs.Prelude.{ℕ, List, ◌++◌, codes, decimal, flat_map}
+use Rattle.std.specs.Prelude.{ℕ, List, ◌++◌, Option, Some, None, codes, decimal, flat_map}
 use Rattle.site_base.specs.declared.config.ProductEntry.{ProductEntry}
 use Rattle.shift_ledger.specs.declared.row.ShiftRow.{ShiftRow}
 use Rattle.shift_ledger.specs.Figures.{adjusted_figure, product_figure}
-use Rattle.shift_table.specs.declared.times.ShiftTimes.{ShiftTimes}
+use Rattle.row_tally.specs.declared.shift_times.ShiftTimes.{ShiftTimes}
 use Rattle.shift_table.specs.ShiftSums.{all_cents, all_clears}
-use Rattle.shift_table.specs.ShiftTimes.{time_word}
+
+-- a time; where it isn't known, `-`
+abbrev pub time_word : Option (List ℕ) → List ℕ
+time_word None = codes "-"
+time_word (Some time) = time
 
 -- the number of a shift, when it was opened and closed, and what all tills cleared in it
 abbrev pub takings_words : ℕ → ShiftTimes → ShiftRow → List ℕ

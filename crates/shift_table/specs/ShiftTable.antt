@@ -1,5 +1,6 @@
 -- The table of a book's shifts.
-use Rattle.std.specs.Prelude.{ℕ, ◌==◌, List, [], ◌++◌, Option, Some, None, codes, flat_map}
+use Rattle.std.specs.Prelude.{ℕ, ◌+◌, ◌-◌, ◌==◌, List, [], ◌++◌, Option, Some, None, codes}
+use Rattle.std.specs.Prelude.{flat_map, min}
 use Rattle.std.specs.List.{range_with_len}
 use Rattle.serde_json.specs.Written.{compact_text}
 use Rattle.shift_ledger.specs.declared.row.ShiftRow.{ShiftRow}
@@ -8,10 +9,11 @@ use Rattle.site_core.specs.Accounts.{shift_row}
 use Rattle.written_site.specs.SiteState.{open_shift}
 use Rattle.shift_table.specs.declared.form.Form.{Form}
 use Rattle.shift_table.specs.declared.form.Form.TheVariants.{Text, Json}
-use Rattle.shift_table.specs.declared.times.ShiftTimes.{ShiftTimes}
+use Rattle.row_tally.specs.declared.shift_times.ShiftTimes.{ShiftTimes}
+use Rattle.shift_table.specs.declared.table.TheConstants.{SHIFTS_AT_ONCE}
 use Rattle.shift_table.specs.ShiftLines.{shift_line}
 use Rattle.shift_table.specs.ShiftObjects.{shift_data}
-use Rattle.shift_table.specs.ShiftTimes.{TimesRead, times_of_shift}
+use Rattle.row_tally.specs.ShiftTimes.{TimesRead, times_of_shift}
 
 -- the figures of shift n of a book, if it is open or closed
 abbrev pub figures_of : Book → ℕ → Option ShiftRow
@@ -32,6 +34,14 @@ line_of Json b n times (Some row) =
 abbrev pub line_at : Form → Book → TimesRead → ℕ → List ℕ
 line_at form b read n = line_of form b n (times_of_shift n read) (figures_of b n)
 
+-- the lines of this many shifts of a book, from shift n on
+abbrev pub lines_from : Form → Book → TimesRead → ℕ → ℕ → List ℕ
+lines_from form b read n count = flat_map (line_at form b read) (range_with_len n count)
+
 -- the table of a book's shifts: a line for each, from shift 1 to the open one
 abbrev pub shifts_text : Form → Book → TimesRead → List ℕ
-shifts_text form b read = flat_map (line_at form b read) (range_with_len 1 (open_of b))
+shifts_text form b read = lines_from form b read 1 (open_of b)
+
+-- the lines of a book's shifts from shift n on: to the open one, and of at most SHIFTS_AT_ONCE
+abbrev pub shifts_from : ℕ → Form → Book → TimesRead → List ℕ
+shifts_from n form b read = lines_from form b read n (min SHIFTS_AT_ONCE (open_of b + 1 - n))

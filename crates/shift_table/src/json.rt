@@ -3,22 +3,24 @@
 ghost use Rattle.std.specs.Prelude.{◌≡◌, ◌++◌, map, IfOk, OnOk, string_bytes};
 ghost use Rattle.serde_json.specs.View.{view};
 ghost use Rattle.serde_json.specs.Written.{compact_text};
-ghost use Rattle.shift_table.specs.ShiftObjects.{listed, product_data, shift_data, sum_data};
-ghost use Rattle.shift_table.specs.ShiftObjects.{till_data, till_if, tills_data, time_data};
-ghost use Rattle.shift_table.specs.ShiftObjects.{whole_data};
+ghost use Rattle.site_json.specs.Figures.{sum_data};
+ghost use Rattle.site_json.specs.ShiftProducts.{shift_products};
+ghost use Rattle.shift_table.specs.ShiftObjects.{listed, shift_data, till_data, till_if};
+ghost use Rattle.shift_table.specs.ShiftObjects.{tills_data, whole_data};
 ghost use Rattle.shift_table.specs.ShiftSums.{all_cents, all_clears};
 
-use crate::sums::{cleared_volume, count_clears, sum_cents};
-use crate::times::ShiftTimes;
-use serde_json::{Number, Value, json};
+use crate::sums::{count_clears, sum_cents};
+use row_tally::ShiftTimes;
+use serde_json::{Value, json};
 use shift_ledger::ShiftRow;
 use site_base::{NoMemory, ProductEntry, ShiftNo, TILL_CELLS, TillNo};
-use stamps::Stamp;
+use site_json::{shift_product_values, sum_value, time_if};
 use std::alloc::{AllocError, Global};
 
-/// A shift as a JSON object: its number, its times and whether it is open, what all tills cleared in it, of
-/// each of these products the millilitres that were cleared and those that tests drew, and each
-/// till that cleared anything with its clears and their cents.
+/// A shift as a JSON object: its number, its times and whether it is open, what all tills cleared
+/// in it, of each of these products the millilitres that were cleared, their cents, and the
+/// millilitres that tests drew, and each till that cleared anything with its clears and their
+/// cents.
 pub fn shift_object(
     alloc: Global,
     products: &[ProductEntry],
@@ -67,8 +69,8 @@ fn whole_value(
     ensures { IfOk result (λ value. view value ≡ whole_data number is_open times.now
         (view clears) (view cents) (view products) (view tills)) }
 {
-    let opened = time_value(alloc, &times.opened)?;
-    let closed = time_value(alloc, &times.closed)?;
+    let opened = time_if(alloc, &times.opened)?;
+    let closed = time_if(alloc, &times.closed)?;
     json!(in alloc; {
         "shift": number.get(),
         "open": is_open,
@@ -81,26 +83,16 @@ fn whole_value(
     })
 }
 
-/// A time; without one null.
-fn time_value(alloc: Global, time: &Option<Stamp>) -> Result<Value, AllocError>
-    ensures { IfOk result (λ value. view value ≡ time_data time.now) }
-{
-    match time {
-        Some(time) => Ok(Value::String(String::from_str(alloc, time.as_str())?)),
-        None => Ok(Value::Null),
-    }
-}
-
-/// The products, each with its millilitres.
+/// The products, each with its figures.
 fn products_value(
     alloc: Global,
     products: &[ProductEntry],
     row: &ShiftRow,
 ) -> Result<Value, NoMemory>
     ensures { IfOk result (λ value.
-        view value ≡ listed (map (product_data row.now) products.now)) }
+        view value ≡ listed (shift_products row.now products.now)) }
 {
-    Ok(Value::Array(product_values(alloc, products, row)?))
+    Ok(Value::Array(shift_product_values(alloc, products, row)?))
 }
 
 /// The tills that cleared anything.
@@ -122,44 +114,6 @@ fn cents_value(tills: &[(u64, u64)]) -> Value
     ensures { view result ≡ sum_data (all_cents tills.now) }
 {
     sum_value(sum_cents(tills))
-}
-
-/// A sum of 64-bit figures; null, where it is above 64 bits.
-#[tactic(auto, unfolding(crate::specs::ShiftObjects::sum_data))]
-fn sum_value(sum: u128) -> Value
-    ensures { view result ≡ sum_data sum }
-{
-    match Number::from_u128(sum) {
-        Some(number) => Value::Number(number),
-        None => Value::Null,
-    }
-}
-
-/// Each product with its millilitres.
-fn product_values(
-    alloc: Global,
-    products: &[ProductEntry],
-    row: &ShiftRow,
-) -> Result<Vec<Value>, NoMemory>
-    ensures { IfOk result (λ values.
-        map view values.items ≡ map (product_data row.now) products.now) }
-{
-    let mut values = Vec::new(alloc);
-    for product in products {
-        values.push(product_value(alloc, product, row)?)?;
-    }
-    Ok(values)
-}
-
-fn product_value(alloc: Global, product: &ProductEntry, row: &ShiftRow) -> Result<Value, AllocError>
-    ensures { IfOk result (λ value. view value ≡ product_data row.now product.now) }
-{
-    let q = product.number;
-    json!(in alloc; {
-        "number": q.get(),
-        "cleared": cleared_volume(row, q),
-        "drawn": row.drawn_volume(q)
-    })
 }
 
 /// Each till that cleared anything, with its clears and their cents.

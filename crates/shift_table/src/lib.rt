@@ -1,5 +1,5 @@
-//! The table of a history's shifts: a line for each, as text or as JSON. Of each shift it has when it
-//! was opened and closed, what all tills cleared, and of each product the millilitres that were
+//! The table of a history's shifts: a line for each, as text or as JSON. Of each shift it has when
+//! it was opened and closed, what all tills cleared, and of each product the millilitres that were
 //! cleared and those that tests drew.
 #![tactic(auto)]
 
@@ -8,8 +8,6 @@ mod json;
 mod sums;
 mod table;
 mod text;
-mod times;
 
 pub use form::Form;
-pub use table::shifts_text;
-pub use times::{ShiftTimes, TimesReader};
+pub use table::{SHIFTS_AT_ONCE, shifts_from, shifts_text};

@@ -1,22 +1,27 @@
 //! The table of a book's shifts.
 
-ghost use Rattle.std.specs.Prelude.{◌≡◌, ◌++◌, codes, string_bytes, IfOk, OnOk};
+ghost use Rattle.std.specs.Prelude.{◌≡◌, ◌+◌, ◌≤◌, ◌++◌, codes, string_bytes, IfOk, OnOk};
 ghost use Rattle.std.specs.Prelude.{Some};
 ghost use Rattle.serde_json.specs.Written.{compact_text};
 ghost use Rattle.shift_table.specs.ShiftObjects.{shift_data};
-ghost use Rattle.shift_table.specs.ShiftTable.{line_at, line_of, shifts_text};
+ghost use Rattle.site_base.specs.declared.numbers.TheConstants.{GREATEST_SHIFT};
+ghost use Rattle.shift_table.specs.ShiftTable.{line_at, line_of, lines_from, shifts_from};
+ghost use Rattle.shift_table.specs.ShiftTable.{shifts_text};
 
 use crate::form::Form;
 use crate::json::shift_object;
 use crate::text::put_shift_line;
-use crate::times::{ShiftTimes, TimesReader};
+use row_tally::{ShiftTimes, TimesReader};
 use shift_ledger::ShiftRow;
 use site_base::{NoMemory, ProductEntry, ShiftNo};
 use site_book::SiteBook;
 use std::alloc::Global;
 
-/// The table of a book's shifts, with the times that were read: a line for each, from shift 1 to the
-/// open one, in order.
+/// So many shifts `shifts_from` tells at most.
+pub const SHIFTS_AT_ONCE: u16 = 64;
+
+/// The table of a book's shifts, with the times that were read: a line for each, from shift 1 to
+/// the open one, in order.
 pub fn shifts_text(
     alloc: Global,
     book: &SiteBook,
@@ -25,10 +30,41 @@ pub fn shifts_text(
 ) -> Result<String, NoMemory>
     ensures { IfOk result (λ text. string_bytes text ≡ shifts_text form book.now read.now) }
 {
+    let first = ShiftNo::new(1).unwrap();
+    lines_from(alloc, book, read, form, first, book.open_shift().get())
+}
+
+/// The lines of this table from this shift on: to the open one, and of at most `SHIFTS_AT_ONCE`.
+pub fn shifts_from(
+    alloc: Global,
+    book: &SiteBook,
+    read: &TimesReader,
+    form: Form,
+    first: ShiftNo,
+) -> Result<String, NoMemory>
+    ensures { IfOk result (λ text.
+        string_bytes text ≡ shifts_from first form book.now read.now) }
+{
+    let left = (book.open_shift().get() + 1).saturating_sub(first.get());
+    lines_from(alloc, book, read, form, first, left.min(SHIFTS_AT_ONCE))
+}
+
+/// The lines of this many shifts, from this one on.
+fn lines_from(
+    alloc: Global,
+    book: &SiteBook,
+    read: &TimesReader,
+    form: Form,
+    first: ShiftNo,
+    count: u16,
+) -> Result<String, NoMemory>
+    requires { first + count ≤ GREATEST_SHIFT + 1 }
+    ensures { IfOk result (λ text.
+        string_bytes text ≡ lines_from form book.now read.now first count) }
+{
     let mut text = String::new(alloc);
-    let open = book.open_shift().get();
-    for closed in 0..open {
-        let Some(number) = ShiftNo::new(closed + 1) else {
+    for behind in 0..count {
+        let Some(number) = ShiftNo::new(first.get() + behind) else {
             unreachable!();
         };
         put_shift(alloc, book, read, form, number, &mut text)?;

@@ -2,11 +2,13 @@
 
 ghost use Rattle.std.specs.Prelude.{◌≡◌, ◌++◌, flat_map, string_bytes, OnOk};
 ghost use Rattle.shift_table.specs.ShiftLines.{product_words, shift_line, takings_words};
+ghost use Rattle.shift_table.specs.ShiftLines.{time_word};
 
 use crate::sums::{cleared_volume, count_clears, sum_cents};
-use crate::times::{ShiftTimes, time_word};
+use row_tally::ShiftTimes;
 use shift_ledger::ShiftRow;
 use site_base::{NoMemory, ProductEntry, ShiftNo};
+use stamps::Stamp;
 
 /// Appends the line of a shift: its number, its times, what all tills cleared in it, and of each of
 /// these products the millilitres that were cleared and those that tests drew.
@@ -72,4 +74,14 @@ fn put_product(text: &mut String, product: &ProductEntry, row: &ShiftRow) -> Res
     let (cleared, drawn) = (cleared_volume(row, q), row.drawn_volume(q));
     write!(text, " product {} cleared {cleared} drawn {drawn}", q.get())?;
     Ok(())
+}
+
+/// A time; where it isn't known, `-`.
+fn time_word(time: &Option<Stamp>) -> &str
+    ensures { result.now ≡ time_word time.now }
+{
+    match time {
+        Some(time) => time.as_str(),
+        None => "-",
+    }
 }

@@ -1,5 +1,5 @@
 //! The words in which actors, events, answers, refusals and rows are written, for people and for
-//! tables of cases: one grammar for all, which docs/PROFILE.md explains.
+//! tables of cases: one grammar for all, which docs/PROGRAM.md explains.
 
 ghost use Rattle.std.specs.Prelude.{Some, [], ◌∷◌, decimal};
 ghost use Rattle.std.specs.Fmt.{DisplaysOnOk};

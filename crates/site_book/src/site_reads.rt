@@ -26,8 +26,8 @@ impl SiteBook {
     }
 
     /// The figures of a shift, the open one's too: of each till its clears and their cents, of each
-    /// product the millilitres that were cleared and those that tests drew. None for shifts to
-    /// come.
+    /// product the millilitres that were cleared, their cents, and the millilitres that tests drew.
+    /// None for shifts to come.
     pub fn shift(&self, n: ShiftNo) -> Option<ShiftRow>
         ensures { result ≡ shift_row n (site_of_book self.now).sales (site_of_book self.now).drawn }
     {

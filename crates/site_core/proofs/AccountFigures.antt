@@ -8,7 +8,8 @@ use Rattle.site_base.specs.Members.{member}
 use Rattle.site_base.proofs.Numbering.{numbered_next, numbered_place, numbered_push_here}
 use Rattle.site_base.proofs.Numbering.{numbered_push_other}
 use Rattle.shift_ledger.specs.declared.row.ShiftRow.{ShiftRow}
-use Rattle.shift_ledger.specs.Figures.{empty_figures, product_figure, till_figures, with_draw}
+use Rattle.shift_ledger.specs.Figures.{empty_figures, product_figure, product_cents_figure}
+use Rattle.shift_ledger.specs.Figures.{till_figures, with_draw}
 use Rattle.shift_ledger.specs.Laws.{closes, draws}
 use Rattle.shift_ledger.specs.Shifts.{Shifts, after_close, after_draw, first_shift, open_number}
 use Rattle.shift_ledger.proofs.Counting.{has_every_figure}
@@ -16,7 +17,8 @@ use Rattle.shift_ledger.proofs.ClosedShifts.{is_opened_empty}
 use Rattle.transaction_buffer.specs.Sales.{Sales, is_unpaid, new_sale, new_standing, no_sales}
 use Rattle.transaction_buffer.specs.Sales.{with_new}
 use Rattle.written_site.specs.FigureSteps.{HasSameClears}
-use Rattle.written_site.proofs.ClearFigures.{none_by, none_cleared_in, none_in, sale_keeps}
+use Rattle.written_site.proofs.ClearFigures.{no_product_cents_in, none_by, none_cleared_in}
+use Rattle.written_site.proofs.ClearFigures.{none_in, sale_keeps}
 use Rattle.site_core.specs.Accounts.{AreFigures, no_clears, row_in}
 
 pub both : {A B : Type 0} (a b : A) (c d : B) → a ≡ b → c ≡ d
@@ -76,6 +78,8 @@ sales_kept old new shifts totals same kept = record {
   clears = λ h t low high.
       kept.clears h t low high ∙ sym (both _ _ _ _ (same.clears h t) (same.cents h t));
   cleared = λ h q low high. kept.cleared h q low high ∙ sym (same.cleared h q);
+  product_cents = λ h q low high.
+      kept.product_cents h q low high ∙ sym (same.product_cents h q);
   all = λ t low high.
       kept.all t low high ∙ sym (both _ _ _ _ (same.all_clears t) (same.all_cents t));
 }
@@ -107,6 +111,9 @@ first_figures sales shifts totals no_sale first no_clear =
       cleared = λ h q low high.
           ap (product_figure q) (row_first h) ∙ is_opened_empty.first_product q
           ∙ sym (none_cleared_in h q);
+      product_cents = λ h q low high.
+          ap (product_cents_figure q) (row_first h) ∙ is_opened_empty.first_product_cents q
+          ∙ sym (no_product_cents_in h q);
       all = λ t low high.
           is_opened_empty.first_till t ∙ sym (both _ _ _ _ (none_by t).0 (none_by t).1);
     })
@@ -118,17 +125,23 @@ draw_leaves : (h q volume : ℕ) (shifts : Shifts)
     ≡ till_figures t (row_in h shifts))
     × ((r : ℕ) → product_figure r (row_in h (after_draw q volume shifts))
     ≡ product_figure r (row_in h shifts))
+    × ((r : ℕ) → product_cents_figure r (row_in h (after_draw q volume shifts))
+    ≡ product_cents_figure r (row_in h shifts))
 draw_leaves h q volume shifts = elim (cases_eq h (open_number shifts)) [
   | inl is ↦
       let old = row_open h shifts is in
       let new = row_open h (after_draw q volume shifts) is in (
         λ t. ap (till_figures t) new ∙ sym (ap (till_figures t) old),
         λ r. ap (product_figure r) new ∙ sym (ap (product_figure r) old),
+        λ r. ap (product_cents_figure r) new ∙ sym (ap (product_cents_figure r) old),
       )
   | inr other ↦
       let same =
-      row_other h shifts.closed shifts.current (with_draw q volume shifts.current) other in
-      (λ t. ap (till_figures t) same, λ r. ap (product_figure r) same)
+      row_other h shifts.closed shifts.current (with_draw q volume shifts.current) other in (
+        λ t. ap (till_figures t) same,
+        λ r. ap (product_figure r) same,
+        λ r. ap (product_cents_figure r) same,
+      )
 ]
 
 pub draw_kept : (q volume : ℕ) (sales : Sales) (shifts : Shifts) (totals : List (ℕ × ℕ))
@@ -140,6 +153,8 @@ draw_kept q volume sales shifts totals kept = record {
       (draw_leaves h q volume shifts).0 t ∙ kept.clears h t low high;
   cleared = λ h r low high.
       (draw_leaves h q volume shifts).1 r ∙ kept.cleared h r low high;
+  product_cents = λ h r low high.
+      (draw_leaves h q volume shifts).2 r ∙ kept.product_cents h r low high;
   all = kept.all;
 }
 
@@ -154,5 +169,7 @@ close_kept sales shifts totals kept = record {
       ap (till_figures t) (row_closed h shifts) ∙ kept.clears h t low high;
   cleared = λ h q low high.
       ap (product_figure q) (row_closed h shifts) ∙ kept.cleared h q low high;
+  product_cents = λ h q low high.
+      ap (product_cents_figure q) (row_closed h shifts) ∙ kept.product_cents h q low high;
   all = kept.all;
 }

@@ -13,13 +13,14 @@ use Rattle.site_base.proofs.Numbering.{length-with_numbered, numbered_place, num
 use Rattle.site_base.proofs.Numbering.{numbered_with_same, numbered_within, with_numbered_place}
 use Rattle.shift_ledger.specs.declared.row.ShiftRow.{ShiftRow}
 use Rattle.shift_ledger.specs.Figures.{FitsClear, one_clear_more, product_figure, till_figures}
-use Rattle.shift_ledger.specs.Figures.{with_clear}
+use Rattle.shift_ledger.specs.Figures.{product_cents_figure, with_clear}
 use Rattle.shift_ledger.specs.Laws.{IsRow, clears}
 use Rattle.shift_ledger.specs.Shifts.{Shifts, after_clear, open_number}
 use Rattle.shift_ledger.proofs.Counting.{has_every_figure}
 use Rattle.transaction_buffer.specs.Sales.{Sale, Sales}
 use Rattle.written_site.specs.FigureSteps.{HasClear}
 use Rattle.written_site.specs.ShiftFigures.{cents_by, cents_in, cleared_in, clears_by, clears_in}
+use Rattle.written_site.specs.ShiftFigures.{product_cents_in}
 use Rattle.site_core.specs.Accounts.{AreDrawn, AreFigures, draws_of, row_in, total_of}
 use Rattle.site_core.specs.Accounts.{with_one_more}
 use Rattle.transaction_buffer.specs.Clears.{FitsOneClear}
@@ -80,9 +81,9 @@ pair_more true count sum cents = refl
 pair_more false count sum cents =
     both count (count + 0) sum (sum + 0) (omega arith) (omega arith)
 
-volume_more : (b : Bool) (sum volume : ℕ) → cond b (sum + volume) sum ≡ sum + cond b volume 0
-volume_more true sum volume = refl
-volume_more false sum volume = omega arith
+sum_more : (b : Bool) (sum more : ℕ) → cond b (sum + more) sum ≡ sum + cond b more 0
+sum_more true sum more = refl
+sum_more false sum more = omega arith
 
 -- ---- one clear
 
@@ -105,6 +106,17 @@ product_after g r t q volume cents shifts row low high =
     (λ sum. sum + volume) (r == q)
     (changed q r shifts.current.products (λ sum. sum + volume) 0 low (omega (arith, row.products)))
 
+product_cents_after : (g r t q volume cents : ℕ) (shifts : Shifts) → IsRow shifts.current → 1 ≤ r
+    → r ≤ PRODUCTS
+    → product_cents_figure r (row_in g (after_clear t q volume cents shifts))
+    ≡ cond (g == open_number shifts && r == q)
+    (product_cents_figure r (row_in g shifts) + cents) (product_cents_figure r (row_in g shifts))
+product_cents_after g r t q volume cents shifts row low high =
+    shown_in g shifts (with_clear t q volume cents shifts.current) (product_cents_figure r)
+    (λ sum. sum + cents) (r == q)
+    (changed q r shifts.current.product_cents (λ sum. sum + cents) 0 low
+    (omega (arith, row.product_cents)))
+
 pub cleared_once : (old new : Sales) (shifts : Shifts) (totals : List (ℕ × ℕ)) (t : ℕ) (x : Sale)
     → HasClear old new t (open_number shifts) x → AreFigures old shifts totals
     → AreFigures new (after_clear t x.product x.volume x.cents shifts)
@@ -122,8 +134,14 @@ cleared_once old new shifts totals t x clear kept = record {
       product_after g r t x.product x.volume x.cents shifts kept.rows.current low high
       ∙ ap (λ f. cond (g == open_number shifts && r == x.product) (f + x.volume) f)
       (kept.cleared g r low high)
-      ∙ volume_more (g == open_number shifts && r == x.product) (cleared_in g r old) x.volume
+      ∙ sum_more (g == open_number shifts && r == x.product) (cleared_in g r old) x.volume
       ∙ sym (clear.cleared g r);
+  product_cents = λ g r low high.
+      product_cents_after g r t x.product x.volume x.cents shifts kept.rows.current low high
+      ∙ ap (λ f. cond (g == open_number shifts && r == x.product) (f + x.cents) f)
+      (kept.product_cents g r low high)
+      ∙ sum_more (g == open_number shifts && r == x.product) (product_cents_in g r old) x.cents
+      ∙ sym (clear.product_cents g r);
   all = λ u low high.
       changed t u totals (one_clear_more x.cents) (0, 0) low (omega (arith, kept.cells, high))
       ∙ ap (λ f. cond (u == t) (one_clear_more x.cents f) f) (kept.all u low high)
@@ -160,6 +178,9 @@ clear_fits sales shifts totals t x kept fits =
     let product : (m : ℕ) → 1 ≤ m → m ≤ PRODUCTS
     → product_figure m shifts.current ≡ cleared_in h m sales =
     λ m low high. sym (ap (product_figure m) row) ∙ kept.cleared h m low high in
+    let product_sum : (m : ℕ) → 1 ≤ m → m ≤ PRODUCTS
+    → product_cents_figure m shifts.current ≡ product_cents_in h m sales =
+    λ m low high. sym (ap (product_cents_figure m) row) ∙ kept.product_cents h m low high in
     let small : 0 + 1 < 2 ^ 64 = omega arith in (
       record {
         clears = told_or (λ f. f.0 + 1 < 2 ^ 64) (λ m. (clears_in h m sales, cents_in h m sales))
@@ -170,6 +191,9 @@ clear_fits sales shifts totals t x kept fits =
         millilitres = told_or (λ f. f + x.volume < 2 ^ 64) (λ m. cleared_in h m sales) 0 x.product
             PRODUCTS shifts.current.products kept.rows.current.products product fits.cleared
             (omega (arith, fits.cleared));
+        product_cents = told_or (λ f. f + x.cents < 2 ^ 64) (λ m. product_cents_in h m sales) 0
+            x.product PRODUCTS shifts.current.product_cents kept.rows.current.product_cents
+            product_sum fits.product_cents (omega (arith, fits.product_cents));
       },
       told_or (λ f. f.0 + 1 < 2 ^ 64) (λ m. (clears_by m sales, cents_by m sales)) (0, 0) t TILLS
           totals kept.cells kept.all fits.all_clears small,

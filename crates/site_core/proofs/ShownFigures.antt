@@ -11,11 +11,12 @@ use Rattle.site_base.specs.declared.limits.TheConstants.{PRODUCTS, TILLS}
 use Rattle.site_base.specs.Members.{member}
 use Rattle.site_base.proofs.Numbering.{numbered_map, numbered_place}
 use Rattle.shift_ledger.specs.declared.row.ShiftRow.{ShiftRow}
-use Rattle.shift_ledger.specs.Figures.{empty_figures, product_figure, till_figures}
+use Rattle.shift_ledger.specs.Figures.{empty_figures, product_figure, product_cents_figure}
+use Rattle.shift_ledger.specs.Figures.{till_figures}
 use Rattle.shift_ledger.specs.Laws.{HaveRows, IsRow}
 use Rattle.shift_ledger.specs.Shifts.{Shifts, figures_of}
 use Rattle.transaction_buffer.specs.Sales.{Sales}
-use Rattle.written_site.specs.ShiftFigures.{cleared_in, takings_in, tills}
+use Rattle.written_site.specs.ShiftFigures.{cleared_in, product_cents_in, takings_in, tills}
 use Rattle.site_core.specs.Accounts.{AreFigures, draws_of, figures_in, products, row_in, shift_row}
 use Rattle.site_core.specs.Accounts.{takings_of}
 use Rattle.site_core.proofs.NumberedCells.{member_at}
@@ -77,6 +78,15 @@ product_cells n sales shifts totals row kept shown =
     (row_is n shifts row kept.rows shown).products
     (λ q low high. ap (product_figure q) (sym own) ∙ kept.cleared n q low high)
 
+product_cents_cells : (n : ℕ) (sales : Sales) (shifts : Shifts) (totals : List (ℕ × ℕ))
+    (row : ShiftRow) → AreFigures sales shifts totals → figures_of n shifts ≡ Some row
+    → row.product_cents ≡ map (λ q. product_cents_in n q sales) products
+product_cents_cells n sales shifts totals row kept shown =
+    let own : row_in n shifts ≡ row = ap (λ o. unwrap_or o empty_figures) shown in
+    known 0 (λ q. product_cents_in n q sales) PRODUCTS row.product_cents
+    (row_is n shifts row kept.rows shown).product_cents
+    (λ q low high. ap (product_cents_figure q) (sym own) ∙ kept.product_cents n q low high)
+
 pub row_shown : (n : ℕ) (sales : Sales) (shifts : Shifts) (totals : List (ℕ × ℕ))
     → AreFigures sales shifts totals → figures_of n shifts ≡ shift_row n sales (draws_of shifts)
 row_shown n sales shifts totals kept =
@@ -90,13 +100,24 @@ row_shown n sales shifts totals kept =
     by_row None none = rw none refl
     by_row (Some row) shown =
         let is : row ≡ figures_in n sales row.adjusted =
-        ap (λ cells. record { tills = cells; products = row.products; adjusted = row.adjusted })
-        (till_cells n sales shifts totals row kept shown)
+        ap (λ cells. record {
+          tills = cells;
+          products = row.products;
+          product_cents = row.product_cents;
+          adjusted = row.adjusted;
+        }) (till_cells n sales shifts totals row kept shown)
         ∙ ap (λ cells. record {
           tills = map (takings_of n sales) tills;
           products = cells;
+          product_cents = row.product_cents;
           adjusted = row.adjusted;
-        }) (product_cells n sales shifts totals row kept shown) in
+        }) (product_cells n sales shifts totals row kept shown)
+        ∙ ap (λ cells. record {
+          tills = map (takings_of n sales) tills;
+          products = map (λ q. cleared_in n q sales) products;
+          product_cents = cells;
+          adjusted = row.adjusted;
+        }) (product_cents_cells n sales shifts totals row kept shown) in
         rw shown (ap Some is)
 
 -- the draws of a shift are those that its figures have

@@ -7,6 +7,7 @@ use Rattle.site_base.specs.declared.limits.TheConstants.{PRODUCT_CELLS, PRODUCTS
 use Rattle.site_base.specs.Members.{member, with_numbered}
 use Rattle.shift_ledger.specs.declared.row.ShiftRow.{ShiftRow}
 use Rattle.shift_ledger.specs.Figures.{empty_figures, one_clear_more, till_figures, product_figure}
+use Rattle.shift_ledger.specs.Figures.{product_cents_figure}
 use Rattle.shift_ledger.specs.Laws.{HaveRows}
 use Rattle.shift_ledger.specs.Shifts.{Shifts, figures_of}
 use Rattle.transaction_buffer.specs.Codes.{sales_code}
@@ -15,7 +16,7 @@ use Rattle.transaction_buffer.specs.declared.request.Request.TheVariants.{Clear}
 use Rattle.transaction_buffer.specs.Clears.{FitsOneClear}
 use Rattle.transaction_buffer.specs.Sales.{Key, Sale, Sales, is_unpaid, sale_of}
 use Rattle.written_site.specs.ShiftFigures.{cents_by, cents_in, cleared_in, clears_by, clears_in}
-use Rattle.written_site.specs.ShiftFigures.{tills}
+use Rattle.written_site.specs.ShiftFigures.{product_cents_in, tills}
 use Rattle.written_site.specs.Sound.{is_draw_row}
 use Rattle.written_site.specs.Volumes.{drawn_of}
 
@@ -46,11 +47,12 @@ abbrev pub takings_of : ℕ → Sales → ℕ → ℕ × ℕ
 takings_of h sales t = (clears_in h t sales, cents_in h t sales)
 
 -- the figures of shift h: of each till its clears and their cents, of each product the millilitres
--- cleared and those drawn by tests
+-- cleared, their cents, and the millilitres drawn by tests
 abbrev pub figures_in : ℕ → Sales → List ℕ → ShiftRow
 figures_in h sales draws = record {
   tills = map (takings_of h sales) tills;
   products = map (λ q. cleared_in h q sales) products;
+  product_cents = map (λ q. product_cents_in h q sales) products;
   adjusted = draws;
 }
 
@@ -95,6 +97,8 @@ pub record AreFigures (sales : Sales) (shifts : Shifts) (totals : List (ℕ × �
       → till_figures t (row_in h shifts) ≡ takings_of h sales t
   pub cleared : (h q : ℕ) → 1 ≤ q → q ≤ PRODUCTS
       → product_figure q (row_in h shifts) ≡ cleared_in h q sales
+  pub product_cents : (h q : ℕ) → 1 ≤ q → q ≤ PRODUCTS
+      → product_cents_figure q (row_in h shifts) ≡ product_cents_in h q sales
   pub all : (t : ℕ) → 1 ≤ t → t ≤ TILLS → total_of t totals ≡ (clears_by t sales, cents_by t sales)
 
 -- what is kept beside the sales has their figures, and what tests drew

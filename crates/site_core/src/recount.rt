@@ -3,7 +3,8 @@
 
 ghost use Rattle.std.specs.Prelude.{◌≡◌, ◌*◌, IfOk, map};
 ghost use Rattle.meters.specs.MeteredVolumes.{product_alone};
-ghost use Rattle.written_site.specs.ShiftFigures.{cleared_in, product_totals, till_totals, tills};
+ghost use Rattle.written_site.specs.ShiftFigures.{cleared_in, product_cents_in, product_totals};
+ghost use Rattle.written_site.specs.ShiftFigures.{till_totals, tills};
 ghost use Rattle.written_site.specs.Sound.{IsPointSound, Sound};
 ghost use Rattle.written_site.specs.Volumes.{product_out, product_view, running_volume, running_at};
 ghost use Rattle.site_core.specs.Accounts.{products, shift_row, takings_of};
@@ -101,6 +102,7 @@ impl SiteParts {
         Some(ShiftRow {
             tills: self.recount_takings(n),
             products: self.recount_cleared(n),
+            product_cents: self.recount_product_cents(n),
             adjusted,
         })
     }
@@ -131,5 +133,18 @@ impl SiteParts {
             cleared[cell] = self.accounts.recount(&Figure::ClearedIn(n, product));
         }
         cleared
+    }
+
+    /// The cents of what was cleared in shift n of each product, from 1 on.
+    fn recount_product_cents(&self, n: ShiftNo) -> [u64; PRODUCT_CELLS]
+        requires { Sound (site_of self.now) }
+        ensures { result ≡ map (λ q. product_cents_in n q (site_of self.now).sales) products }
+    {
+        let mut sums = [0; PRODUCT_CELLS];
+        for cell in 0..PRODUCT_CELLS {
+            let product = ProductNo::of_cell(cell);
+            sums[cell] = self.accounts.recount(&Figure::ProductCentsIn(n, product));
+        }
+        sums
     }
 }

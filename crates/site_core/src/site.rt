@@ -150,8 +150,8 @@ impl Site {
     }
 
     /// The figures of shift n, the open one's too: of each till its clears and their cents, of each
-    /// product the millilitres that were cleared and those that tests drew. None for shifts to
-    /// come.
+    /// product the millilitres that were cleared, their cents, and the millilitres that tests drew.
+    /// None for shifts to come.
     pub fn shift(&self, n: ShiftNo) -> Option<ShiftRow>
         ensures { result ≡ shift_row n self.now.site.sales self.now.site.drawn }
     {

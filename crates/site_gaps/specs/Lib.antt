@@ -1,2 +1,4 @@
 pub mod GapData
+pub mod JumpData
+pub mod MomentData
 pub mod StationData

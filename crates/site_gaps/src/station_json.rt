@@ -1,22 +1,26 @@
 //! A station as JSON.
 
-ghost use Rattle.std.specs.Prelude.{◌≡◌, IfOk, OnOk, codes, option_copied, string_bytes};
-ghost use Rattle.serde_json.specs.Data.{object, put};
-ghost use Rattle.serde_json.specs.View.{members_view, view};
+ghost use Rattle.std.specs.Prelude.{◌≡◌, IfOk, option_copied, string_bytes};
+ghost use Rattle.serde_json.specs.Data.{object};
+ghost use Rattle.serde_json.specs.View.{view};
 ghost use Rattle.serde_json.specs.Written.{compact_text};
-ghost use Rattle.site_gaps.specs.StationData.{members_of, station_data, with_gaps};
+ghost use Rattle.site_json.specs.SiteData.{members_of};
+ghost use Rattle.site_gaps.specs.StationData.{station_data, with_told};
 
 use crate::gaps::gaps_value;
+use crate::jumps::jumps_value;
+use crate::moments::{calling_value, sold_value};
 use row_tally::RowTally;
-use serde_json::{Map, Value};
+use serde_json::Value;
 use site_base::NoMemory;
 use site_book::{NamedSale, SiteBook};
-use site_json::{PeerSession, site_value};
+use site_json::{PeerSession, put_member, site_value, text_if};
 use stamps::Stamp;
 use std::alloc::{AllocError, Global};
 
-/// A station as a text of JSON: its site, as `site_json::site_value` tells it, and the open gaps of
-/// its rows, if there is a tally of them.
+/// A station as a text of JSON: its site, as `site_json::site_value` tells it, since when points
+/// call, when sales were sold, the open gaps and the jumps, if there is a tally of its rows, and
+/// the site's name, if it has one.
 pub fn station_text(
     alloc: Global,
     book: &SiteBook,
@@ -27,10 +31,11 @@ pub fn station_text(
     opened: Option<Stamp>,
     seal: Option<&str>,
     tally: Option<&RowTally>,
+    name: Option<&str>,
 ) -> Result<String, NoMemory>
     ensures { IfOk result (λ text. string_bytes text ≡ compact_text
         (station_data book.now unpaid.now connections sessions.now at opened
-        (option_copied seal.entry) (option_copied tally.entry))) }
+        (option_copied seal.entry) (option_copied tally.entry) (option_copied name.entry))) }
 {
     let station = station_value(
         alloc,
@@ -42,6 +47,7 @@ pub fn station_text(
         opened,
         seal,
         tally,
+        name,
     )?;
     Ok(station.to_string(alloc)?)
 }
@@ -57,32 +63,42 @@ fn station_value(
     opened: Option<Stamp>,
     seal: Option<&str>,
     tally: Option<&RowTally>,
+    name: Option<&str>,
 ) -> Result<Value, NoMemory>
     ensures { IfOk result (λ value. view value
         ≡ station_data book.now unpaid.now connections sessions.now at opened
-        (option_copied seal.entry) (option_copied tally.entry)) }
+        (option_copied seal.entry) (option_copied tally.entry) (option_copied name.entry)) }
 {
+    let calling = calling_value(alloc, book, tally)?;
     let gaps = gaps_value(alloc, tally)?;
+    let jumps = jumps_value(alloc, tally)?;
+    let name = text_if(alloc, name)?;
+    let sold = sold_value(alloc, tally)?;
     let site = site_value(alloc, book, unpaid, connections, sessions, at, opened, seal)?;
-    Ok(with_gaps(alloc, site, gaps)?)
+    Ok(with_told(alloc, site, calling, gaps, jumps, name, sold)?)
 }
 
-/// A site, which is an object, with these gaps among its members.
-fn with_gaps(alloc: Global, site: Value, gaps: Value) -> Result<Value, AllocError>
+/// A site, which is an object, with these members more.
+fn with_told(
+    alloc: Global,
+    site: Value,
+    calling: Value,
+    gaps: Value,
+    jumps: Value,
+    name: Value,
+    sold: Value,
+) -> Result<Value, AllocError>
     requires { view site ≡ object (members_of (view site)) }
-    ensures { IfOk result (λ value. view value ≡ with_gaps (view gaps) (view site)) }
+    ensures { IfOk result (λ value. view value ≡ with_told (view calling) (view gaps)
+        (view jumps) (view name) (view sold) (view site)) }
 {
     let Value::Object(mut members) = site else {
         unreachable!();
     };
-    put_gaps(alloc, &mut members, gaps)?;
+    put_member(alloc, &mut members, "calling", calling)?;
+    put_member(alloc, &mut members, "gaps", gaps)?;
+    put_member(alloc, &mut members, "jumps", jumps)?;
+    put_member(alloc, &mut members, "name", name)?;
+    put_member(alloc, &mut members, "sold", sold)?;
     Ok(Value::Object(members))
-}
-
-/// Puts the gaps among the members of an object, at their place.
-fn put_gaps(alloc: Global, members: &mut Map<String, Value>, gaps: Value) -> Result<(), AllocError>
-    ensures { OnOk result (members_view members.new.entries
-        ≡ put (codes "gaps") (view gaps) (members_view members.old.entries)) }
-{
-    serde_json::put(members, alloc, "gaps", gaps)
 }

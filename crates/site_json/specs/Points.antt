@@ -1,6 +1,7 @@
 -- A fuelling point as JSON. Members stand in the order of their names.
-use Rattle.std.specs.Prelude.{ℕ, Bool, ◌&&◌, if◌then◌else◌, List, [], ◌∷◌, codes, nat_le, flat_map}
-use Rattle.std.specs.Prelude.{Option, Some, None, option_map}
+use Rattle.std.specs.Prelude.{ℕ, ◌-◌, Bool, ◌&&◌, if◌then◌else◌, List, [], ◌∷◌, codes, nat_le}
+use Rattle.std.specs.Prelude.{flat_map}
+use Rattle.std.specs.Prelude.{Option, Some, None, option_map, unwrap_or}
 use Rattle.serde_json.specs.Data.{Data, boolean, string, object, member, no_members}
 use Rattle.site_base.specs.declared.config.NozzleEntry.{NozzleEntry}
 use Rattle.site_base.specs.declared.config.PointEntry.{PointEntry}
@@ -57,19 +58,24 @@ cents_so_far v =
     if nat_le v.volume GREATEST_READING && is_between 1 GREATEST_PRICE v.price
     then Some (amount v.volume v.price) else None
 
+-- what is left of what was prepaid, where it was
+abbrev pub left_cents : PointView → Option ℕ
+left_cents v = option_map (λ paid. paid - unwrap_or (cents_so_far v) 0) v.prepaid
+
 -- the fuelling to come or under way at a point that a read shows so
 abbrev pub fuelling_data : PointView → Data
 fuelling_data v =
     object
     (member (codes "cents") (figure_if (cents_so_far v))
     (member (codes "ending") (boolean v.ending)
+    (member (codes "left cents") (figure_if (left_cents v))
     (member (codes "millilitres") (figure v.volume)
     (member (codes "mills") (figure v.price)
     (member (codes "prepaid") (figure_if v.prepaid)
     (member (codes "preset cents") (figure_if (preset_cents v.preset))
     (member (codes "preset millilitres") (figure_if (preset_millilitres v.preset))
     (member (codes "test") (boolean v.test)
-    no_members))))))))
+    no_members)))))))))
 
 -- a point of the configuration as a read shows it, whose dispenser is connected or not, with these
 -- nozzles

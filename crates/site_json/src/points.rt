@@ -5,9 +5,9 @@ ghost use Rattle.serde_json.specs.View.{view};
 ghost use Rattle.site_base.specs.declared.limits.TheConstants.{NOZZLES};
 ghost use Rattle.site_book.specs.Book.{site_of_book};
 ghost use Rattle.site_json.specs.Nozzles.{nozzles_data};
-ghost use Rattle.site_json.specs.Points.{cents_so_far, fuelling_data, point_data, point_shown};
-ghost use Rattle.site_json.specs.Points.{points_data, preset_cents, preset_millilitres};
-ghost use Rattle.site_json.specs.Points.{product_out, state_word};
+ghost use Rattle.site_json.specs.Points.{cents_so_far, fuelling_data, left_cents, point_data};
+ghost use Rattle.site_json.specs.Points.{point_shown, points_data, preset_cents};
+ghost use Rattle.site_json.specs.Points.{preset_millilitres, product_out, state_word};
 
 use crate::figures::{figure_if, widen};
 use crate::nozzles::nozzle_values;
@@ -90,12 +90,14 @@ fn fuelling_value(alloc: Global, shown: &PointView) -> Result<Value, AllocError>
     ensures { IfOk result (λ value. view value ≡ fuelling_data shown.now) }
 {
     let cents = figure_if(cents_so_far(shown));
+    let left = figure_if(left_cents(shown));
     let prepaid = figure_if(widen(shown.prepaid));
     let preset_cents = figure_if(preset_cents(&shown.preset));
     let preset_millilitres = figure_if(preset_millilitres(&shown.preset));
     json!(in alloc; {
         "cents": cents,
         "ending": shown.ending,
+        "left cents": left,
         "millilitres": shown.volume,
         "mills": shown.price,
         "prepaid": prepaid,
@@ -129,6 +131,17 @@ fn cents_so_far(shown: &PointView) -> Option<u64>
     let volume = Millilitres::new(shown.volume)?;
     let price = Mills::new(shown.price)?;
     Some(amount_of(volume, price).get())
+}
+
+/// What is left of what was prepaid, where it was.
+fn left_cents(shown: &PointView) -> Option<u64>
+    ensures { result ≡ left_cents shown.now }
+{
+    let prepaid = widen(shown.prepaid)?;
+    match cents_so_far(shown) {
+        Some(cents) => Some(prepaid.saturating_sub(cents)),
+        None => Some(prepaid),
+    }
 }
 
 /// The cents of a preset of money.

@@ -1,9 +1,11 @@
 //! Transactions as JSON.
 
-ghost use Rattle.std.specs.Prelude.{◌≡◌, map, IfOk, Some};
+ghost use Rattle.std.specs.Prelude.{◌≡◌, ◌≤◌, map, IfOk, Some};
 ghost use Rattle.serde_json.specs.View.{view};
+ghost use Rattle.site_base.specs.declared.amounts.TheConstants.{GREATEST_CENTS};
 ghost use Rattle.transaction_buffer.specs.Sales.{status_of, till_of};
-ghost use Rattle.site_json.specs.Transactions.{cents_of, sales_at, status_word};
+ghost use Rattle.site_json.specs.Transactions.{back_of, cents_of, due_of, dues_of, sales_at};
+ghost use Rattle.site_json.specs.Transactions.{status_word};
 ghost use Rattle.site_json.specs.Transactions.{transaction_data, transactions_data};
 
 use crate::figures::{figure_if, widen};
@@ -59,10 +61,34 @@ fn transaction_value(alloc: Global, sold: &NamedSale) -> Result<Value, AllocErro
         "millilitres": sale.volume.get(),
         "mills": sale.price.get(),
         "cents": sale.cents.get(),
+        "due cents": due_of(sold),
+        "back cents": back_of(sold),
         "prepaid": prepaid,
         "status": status_word(&standing),
         "till": till
     })
+}
+
+/// What is still due of a transaction: what it costs above what was prepaid.
+fn due_of(sold: &NamedSale) -> u64
+    ensures due { result ≡ due_of sold.now }
+    ensures within { result ≤ GREATEST_CENTS }
+{
+    let cents = sold.sale.cents.get();
+    match sold.sale.prepaid {
+        Some(prepaid) => cents.saturating_sub(u64::from(prepaid)),
+        None => cents,
+    }
+}
+
+/// What goes back of it: what was prepaid above what it costs.
+fn back_of(sold: &NamedSale) -> u64
+    ensures { result ≡ back_of sold.now }
+{
+    match sold.sale.prepaid {
+        Some(prepaid) => u64::from(prepaid).saturating_sub(sold.sale.cents.get()),
+        None => 0,
+    }
 }
 
 /// The name of a status.
@@ -94,6 +120,17 @@ pub fn cents_of(sales: &[NamedSale]) -> u128
     let mut cents: u128 = 0;
     for sale in sales {
         cents += u128::from(sale.sale.cents.get());
+    }
+    cents
+}
+
+/// What is due of these transactions, in all.
+pub fn dues_of(sales: &[NamedSale]) -> u128
+    ensures { result ≡ dues_of sales.now }
+{
+    let mut cents: u128 = 0;
+    for sale in sales {
+        cents += u128::from(due_of(sale));
     }
     cents
 }

@@ -17,6 +17,7 @@ use Rattle.site_book.specs.declared.named_sale.NamedSale.{NamedSale}
 use Rattle.written_site.specs.SiteState.{open_shift, view_point}
 use Rattle.site_json.specs.declared.sessions.PeerSession.{PeerSession}
 use Rattle.site_json.specs.Points.{state_word}
+use Rattle.site_json.specs.Sessions.{is_connected}
 use Rattle.site_json.specs.Transactions.{cents_of}
 use Rattle.row_tally.specs.Tally.{Tally}
 use Rattle.site_metrics.specs.declared.counts.StationCounts.{StationCounts}
@@ -27,7 +28,7 @@ use Rattle.site_metrics.specs.Tallied.{tally_text}
 -- how many rows there are, and how many of them aren't those of reads
 unfoldable pub rows_lines : ℕ → ℕ → List ℕ
 rows_lines rows kept =
-    gauge (codes "witsomar_rows") (codes "Rows of the history.") rows
+    gauge (codes "witsomar_rows") (codes "Rows of the history, and reads since the start.") rows
     ++ gauge (codes "witsomar_kept_rows") (codes "Rows but those of reads.") kept
 
 abbrev pub rows_text : Book → List ℕ
@@ -91,6 +92,19 @@ points_text b =
     head (codes "witsomar_points") (codes "gauge") (codes "Fuelling points by state.")
     ++ flat_map (state_text b) states
 
+-- how many configured points have a dispenser among these sessions
+abbrev pub points_connected : Book → List PeerSession → ℕ
+points_connected b sessions =
+    count_by (λ (e : PointEntry). is_connected sessions e.number) b.config.points
+
+unfoldable pub connected_line : ℕ → List ℕ
+connected_line count =
+    gauge (codes "witsomar_points_connected")
+    (codes "Fuelling points whose dispenser is connected.") count
+
+abbrev pub connected_text : Book → List PeerSession → List ℕ
+connected_text b sessions = connected_line (points_connected b sessions)
+
 -- the unpaid transactions, and what they come to
 unfoldable pub unpaid_lines : ℕ → ℕ → List ℕ
 unpaid_lines count cents =
@@ -122,5 +136,6 @@ metrics_text b unpaid counts sessions tally =
     rows_text b
     ++ (connections_text counts.connections sessions
     ++ (points_text b
+    ++ (connected_text b sessions
     ++ (unpaid_text unpaid
-    ++ (shifts_text b ++ (tally_text tally ++ (counts_text counts ++ end_line))))))
+    ++ (shifts_text b ++ (tally_text tally ++ (counts_text counts ++ end_line)))))))

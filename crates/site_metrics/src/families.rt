@@ -2,7 +2,7 @@
 
 ghost use Rattle.std.specs.Prelude.{◌≡◌, ◌++◌, OnOk, string_bytes};
 ghost use Rattle.site_metrics.specs.Families.{gauge, head, numbered, sample, seconds};
-ghost use Rattle.site_metrics.specs.Metrics.{end_line, kinds_lines, peers_lines};
+ghost use Rattle.site_metrics.specs.Metrics.{connected_line, end_line, kinds_lines, peers_lines};
 ghost use Rattle.site_metrics.specs.Metrics.{rows_lines};
 ghost use Rattle.site_metrics.specs.Metrics.{sessions_lines, shifts_lines, state_line};
 ghost use Rattle.site_metrics.specs.Metrics.{unpaid_lines};
@@ -94,7 +94,12 @@ pub(crate) fn put_end(text: &mut String) -> Result<(), AllocError>
 pub(crate) fn put_rows_lines(text: &mut String, rows: u128, kept: u128) -> Result<(), AllocError>
     ensures { OnOk result (string_bytes text.new ≡ string_bytes text.old ++ rows_lines rows kept) }
 {
-    put_gauge(text, "witsomar_rows", "Rows of the history.", rows)?;
+    put_gauge(
+        text,
+        "witsomar_rows",
+        "Rows of the history, and reads since the start.",
+        rows,
+    )?;
     put_gauge(text, "witsomar_kept_rows", "Rows but those of reads.", kept)
 }
 
@@ -131,6 +136,15 @@ fn put_kinds_lines(text: &mut String, tills: u128, dispensers: u128) -> Result<(
     let name = "witsomar_sessions";
     put_sample(text, name, "{kind=\"till\"}", tills)?;
     put_sample(text, name, "{kind=\"dispenser\"}", dispensers)
+}
+
+/// Appends that so many points have their dispenser connected.
+pub(crate) fn put_connected_line(text: &mut String, count: u128) -> Result<(), AllocError>
+    ensures { OnOk result
+        (string_bytes text.new ≡ string_bytes text.old ++ connected_line count) }
+{
+    let help = "Fuelling points whose dispenser is connected.";
+    put_gauge(text, "witsomar_points_connected", help, count)
 }
 
 /// Appends so many unpaid transactions, which come to so many cents.

@@ -4,21 +4,22 @@ ghost use Rattle.std.specs.Prelude.{◌≡◌, ◌++◌, IfOk, OnOk, flat_map, o
 ghost use Rattle.device_map.specs.declared.ids.TheConstants.{DISPENSER_SUBNET, TILL_SUBNET};
 ghost use Rattle.site_book.specs.Book.{site_of_book};
 ghost use Rattle.written_site.specs.SiteState.{view_point};
-ghost use Rattle.site_metrics.specs.Metrics.{connections_text, metrics_text, points_in};
-ghost use Rattle.site_metrics.specs.Metrics.{points_text, rows_text, sessions_of, shifts_text};
-ghost use Rattle.site_metrics.specs.Metrics.{shows, state_text, unpaid_text};
+ghost use Rattle.site_metrics.specs.Metrics.{connected_text, connections_text, metrics_text};
+ghost use Rattle.site_metrics.specs.Metrics.{points_connected, points_in, points_text, rows_text};
+ghost use Rattle.site_metrics.specs.Metrics.{sessions_of, shifts_text, shows, state_text};
+ghost use Rattle.site_metrics.specs.Metrics.{unpaid_text};
 
 use crate::counts::{StationCounts, put_counts};
 use crate::families::{
-    put_end, put_head, put_peers_lines, put_rows_lines, put_shifts_lines, put_state_line,
-    put_unpaid_lines,
+    put_connected_line, put_end, put_head, put_peers_lines, put_rows_lines, put_shifts_lines,
+    put_state_line, put_unpaid_lines,
 };
 use crate::kinds::{is_dispenser, is_till};
 use crate::tallied::put_tally;
 use row_tally::RowTally;
 use site_base::{FpNo, GREATEST_SHIFT, PointState};
 use site_book::{NamedSale, SiteBook};
-use site_json::{PeerSession, cents_of, state_word};
+use site_json::{PeerSession, cents_of, is_connected, state_word};
 use std::alloc::{AllocError, Global};
 
 /// The states of a point, in the order of their numbers.
@@ -68,6 +69,7 @@ fn put_figures(
     put_rows(text, book)?;
     put_connections(text, counts.connections, sessions)?;
     put_points(text, book)?;
+    put_connected(text, book, sessions)?;
     put_unpaid(text, unpaid)?;
     put_shifts(text, book)?;
     put_tally(text, tally)?;
@@ -166,6 +168,31 @@ fn is_in(book: &SiteBook, p: FpNo, state: PointState) -> bool
         Some(view) => view.state.number() == state.number(),
         None => false,
     }
+}
+
+/// How many points have their dispenser connected.
+fn put_connected(
+    text: &mut String,
+    book: &SiteBook,
+    sessions: &[PeerSession],
+) -> Result<(), AllocError>
+    ensures { OnOk result (string_bytes text.new
+        ≡ string_bytes text.old ++ connected_text book.now sessions.now) }
+{
+    put_connected_line(text, count_connected(book, sessions))
+}
+
+/// .. as a number.
+fn count_connected(book: &SiteBook, sessions: &[PeerSession]) -> u128
+    ensures { result ≡ points_connected book.now sessions.now }
+{
+    let mut count: u128 = 0;
+    for point in book.config().points() {
+        if is_connected(sessions, point.number) {
+            count += 1;
+        }
+    }
+    count
 }
 
 /// The unpaid transactions, and what they come to.

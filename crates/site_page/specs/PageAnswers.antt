@@ -10,13 +10,17 @@ use Rattle.http_server.specs.Response.{IsResponse}
 use Rattle.serde_json.specs.Data.{Data}
 use Rattle.serde_json.specs.Written.{compact_text}
 use Rattle.site_base.specs.declared.limits.TheConstants.{POINTS}
+use Rattle.site_base.specs.declared.numbers.TheConstants.{GREATEST_SHIFT}
 use Rattle.site_book.specs.Book.{Book, is_full}
 use Rattle.site_book.specs.declared.named_sale.NamedSale.{NamedSale}
 use Rattle.site_json.specs.declared.sessions.PeerSession.{PeerSession}
 use Rattle.site_json.specs.Transactions.{unpaid_data}
 use Rattle.site_metrics.specs.declared.counts.StationCounts.{StationCounts}
 use Rattle.site_metrics.specs.Metrics.{metrics_text}
+use Rattle.row_tally.specs.ShiftTimes.{TimesRead, no_times}
 use Rattle.row_tally.specs.Tally.{Tally}
+use Rattle.shift_table.specs.declared.form.Form.TheVariants.{Json}
+use Rattle.shift_table.specs.ShiftTable.{shifts_from}
 use Rattle.site_gaps.specs.StationData.{station_data}
 use Rattle.site_page.specs.declared.html.TheConstants.{PAGE}
 use Rattle.site_page.specs.declared.query.Asked.{Asked}
@@ -44,6 +48,9 @@ site_fields = text_fields (codes "application/json")
 abbrev pub metrics_fields : List Header
 metrics_fields =
     text_fields (codes "application/openmetrics-text; version=1.0.0; charset=utf-8")
+
+abbrev pub shifts_fields : List Header
+shifts_fields = text_fields (codes "application/x-ndjson")
 
 abbrev pub line_fields : List Header
 line_fields = text_fields (codes "text/plain; charset=utf-8")
@@ -78,16 +85,25 @@ abbrev pub IsSealAnswer : Option (List ℕ) → Response → Type 0
 IsSealAnswer None response = IsNothing response
 IsSealAnswer (Some seal) response = IsLine 200 (seal ++ codes "\n") response
 
+-- What a query asks for: it may be missing, name a number from 1 on behind a word, or say something
+-- else.
+pub record IsAsked (word : List ℕ) (most : ℕ) (query : Option (List ℕ)) (Every : Type 0)
+    (Numbered : ℕ → Type 0) (Other : Type 0) : Type 0 where
+  pub all : query ≡ None → Every
+  pub some : (p : ℕ) → 1 ≤ p → p ≤ most → query ≡ Some (word ++ decimal p) → Numbered p
+  pub other : (q : List ℕ) → query ≡ Some q
+      → ((p : ℕ) → 1 ≤ p → p ≤ most → q ≢ word ++ decimal p) → Other
+
+-- that no such transactions can be asked for
+abbrev pub IsUnpaidUnknown : Response → Type 0
+IsUnpaidUnknown response = IsLine 400 (codes "ask for /unpaid or /unpaid?point=P\n") response
+
 -- The unpaid transactions: all without a query, those of a point for `point=P`. Any other query is
 -- refused.
-pub record IsUnpaidAnswer (unpaid : List NamedSale) (query : Option (List ℕ)) (response : Response)
-    : Type 0 where
-  pub all : query ≡ None → IsJson (unpaid_data None unpaid) response
-  pub some : (p : ℕ) → 1 ≤ p → p ≤ POINTS → query ≡ Some (codes "point=" ++ decimal p)
-      → IsJson (unpaid_data (Some p) unpaid) response
-  pub other : (q : List ℕ) → query ≡ Some q
-      → ((p : ℕ) → 1 ≤ p → p ≤ POINTS → q ≢ codes "point=" ++ decimal p)
-      → IsLine 400 (codes "ask for /unpaid or /unpaid?point=P\n") response
+abbrev pub IsUnpaidAnswer : List NamedSale → Option (List ℕ) → Response → Type 0
+IsUnpaidAnswer unpaid query response =
+    IsAsked (codes "point=") POINTS query (IsJson (unpaid_data None unpaid) response)
+    (λ (p : ℕ). IsJson (unpaid_data (Some p) unpaid) response) (IsUnpaidUnknown response)
 
 -- what a query asks for
 abbrev pub AsksFor : Option (List ℕ) → Asked → Type 0
@@ -96,14 +112,23 @@ AsksFor (Some q) (Point p) = (1 ≤ p) × (p ≤ POINTS) × (q ≡ codes "point=
 AsksFor (Some q) Unknown = (p : ℕ) → 1 ≤ p → p ≤ POINTS → q ≢ codes "point=" ++ decimal p
 AsksFor query asked = ⊥
 
+-- the first shift that a query asks for
+abbrev pub AsksFrom : Option (List ℕ) → Option ℕ → Type 0
+AsksFrom None (Some n) = n ≡ 1
+AsksFrom (Some q) (Some n) =
+    (1 ≤ n) × (n ≤ GREATEST_SHIFT) × (q ≡ codes "from=" ++ decimal n)
+AsksFrom (Some q) None =
+    (n : ℕ) → 1 ≤ n → n ≤ GREATEST_SHIFT → q ≢ codes "from=" ++ decimal n
+AsksFrom None None = ⊥
+
 -- whether rows can be added: a book without room for one more takes none
 abbrev pub IsHealthAnswer : Bool → Response → Type 0
 IsHealthAnswer false response = IsLine 200 (codes "ok\n") response
 IsHealthAnswer true response = IsLine 503 (codes "the book is full\n") response
 
 -- What requests are answered from: a book at this time, of which these are the unpaid transactions,
--- what the station counts, these sessions, of its history the time of the open shift's first row and
--- the last seal, and the tally of its rows, if there is one.
+-- what the station counts, these sessions, of its history the time of the open shift's first row
+-- and the last seal, the tally of its rows, if there is one, and the site's name, if it has one.
 pub record Shown : Type 0 where
   pub book : Book
   pub unpaid : List NamedSale
@@ -113,6 +138,7 @@ pub record Shown : Type 0 where
   pub opened : Option (List ℕ)
   pub seal : Option (List ℕ)
   pub tally : Option Tally
+  pub name : Option (List ℕ)
 
 -- its figures for programs that watch the site
 abbrev pub IsMetricsAnswer : Shown → Response → Type 0
@@ -120,9 +146,31 @@ IsMetricsAnswer x response =
     IsResponse 200 metrics_fields
     (metrics_text x.book x.unpaid x.counts x.sessions x.tally) response
 
+-- the times of its shifts; without a tally none is known
+abbrev pub times_told : Option Tally → TimesRead
+times_told None = no_times
+times_told (Some t) = t.moments.shifts
+
+-- its shifts from this one on, a line of JSON for each
+abbrev pub AreShifts : ℕ → Shown → Response → Type 0
+AreShifts n x response =
+    IsResponse 200 shifts_fields (shifts_from n Json x.book (times_told x.tally)) response
+
+-- that no such shifts can be asked for
+abbrev pub IsShiftsUnknown : Response → Type 0
+IsShiftsUnknown response = IsLine 400 (codes "ask for /shifts or /shifts?from=N\n") response
+
+-- The shifts: from shift 1 on without a query, from shift N on for `from=N`. Any other query is
+-- refused.
+abbrev pub IsShiftsAnswer : Shown → Option (List ℕ) → Response → Type 0
+IsShiftsAnswer x query response =
+    IsAsked (codes "from=") GREATEST_SHIFT query (AreShifts 1 x response)
+    (λ (n : ℕ). AreShifts n x response) (IsShiftsUnknown response)
+
 abbrev pub shown_data : Shown → Data
 shown_data x =
     station_data x.book x.unpaid x.counts.connections x.sessions x.at x.opened x.seal x.tally
+    x.name
 
 -- none of the paths that are answered
 pub record IsUnknown (path : List ℕ) : Type 0 where
@@ -132,9 +180,11 @@ pub record IsUnknown (path : List ℕ) : Type 0 where
   pub metrics : path ≢ codes "/metrics"
   pub health : path ≢ codes "/healthz"
   pub seal : path ≢ codes "/seal"
+  pub shifts : path ≢ codes "/shifts"
 
--- What a path is answered: / the page, /site.json the site as JSON, /unpaid the unpaid transactions,
--- /metrics the figures, /healthz whether rows can be added, /seal the line of the last seal; any other isn't there.
+-- What a path is answered: / the page, /site.json the site as JSON, /unpaid the unpaid
+-- transactions, /metrics the figures, /healthz whether rows can be added, /seal the line of the
+-- last seal, /shifts the shifts; any other isn't there.
 pub record IsPathAnswer (x : Shown) (path : List ℕ) (query : Option (List ℕ)) (response : Response)
     : Type 0 where
   pub html : path ≡ codes "/" → IsResponse 200 page_fields PAGE.now response
@@ -143,6 +193,7 @@ pub record IsPathAnswer (x : Shown) (path : List ℕ) (query : Option (List ℕ)
   pub metrics : path ≡ codes "/metrics" → IsMetricsAnswer x response
   pub health : path ≡ codes "/healthz" → IsHealthAnswer (is_full x.book) response
   pub seal : path ≡ codes "/seal" → IsSealAnswer x.seal response
+  pub shifts : path ≡ codes "/shifts" → IsShiftsAnswer x query response
   pub nothing : IsUnknown path → IsNothing response
 
 -- The page answers the request: GET and HEAD by its path, and no other method. Whether there is a

@@ -54,8 +54,7 @@ background:var(--card);border:1px solid var(--edge);border-left:6px solid var(--
 .figs,.run,.rest{gap:.45em;line-height:1.1}.rest{text-align:right}
 .flowed,.dues .sum,.run .sum{font-size:min(2em,(100cqw - 1.6em)/(var(--n)*.67))}
 .sum{font-weight:700}
-.figs .name{font-size:min(1em,(100cqw - 1.6em)/(var(--n)*1.34))}
-.figs .prepaid{font-size:min(.8em,(100cqw - 1.6em)/(var(--n)*1.7))}
+.figs .name,.figs .prepaid{font-size:min(1em,(100cqw - 1.6em)/(var(--n)*1.34))}
 .gone,.gap,.limit,.line{white-space:nowrap;font-size:min(1em,(100cqw - 1.5em)/(var(--n)*.63))}
 .gone,.gap{color:var(--stop);font-weight:700}
 .line span{flex:none}
@@ -99,17 +98,25 @@ min-width:0;font-size:clamp(13px,1.05vw,24px)}
 #products{display:grid;grid-template-columns:repeat(auto-fit,minmax(8em,1fr));gap:4px}
 #products section{background:var(--card);border:1px solid var(--edge);padding:2px 8px;min-width:0;
 container-type:inline-size;white-space:nowrap}
-#products h2{font-size:min(1em,98cqw/(var(--n)*.7));font-weight:600}
-#products p{display:flex;gap:.4em;align-items:baseline}
-#products b{font-size:min(1.6em,96cqw/(var(--n)*.7))}
-#products .price{font-size:min(1em,96cqw/(var(--n)*1.16))}
+.took{display:grid;grid-template:"name price" "flowed flowed" "taken taken"/auto 1fr;gap:0 .5em;
+align-items:baseline;--most:1.6em}
+#products h2,#products .price{font-size:min(1em,92cqw/((var(--name) + var(--price) + 1)*.7))}
+#products h2{grid-area:name;font-weight:600}
+.price{grid-area:price;text-align:right}
+.took .flowed{grid-area:flowed;font-weight:400;font-size:min(var(--most),96cqw/(var(--flow)*.7))}
+.taken{grid-area:taken;text-align:right;font-size:min(var(--most),96cqw/(var(--sum)*.7))}
+@container (width > 21em){.took{grid-template:"name price" "flowed taken"/auto 1fr}
+.took b{font-size:min(var(--most),92cqw/((var(--flow) + var(--sum) + 1)*.7))}}
+@container (width < 13em){.took{grid-template:"name name" "flowed price" "taken taken"/auto 1fr}
+#products h2{font-size:min(1em,98cqw/(var(--name)*.7))}
+#products .price{font-size:min(1em,57cqw/((var(--flow) + var(--price)*.62 + 1)*.68))}
+.took .flowed{font-size:min(var(--most),92cqw/((var(--flow) + var(--price)*.62 + 1)*.68))}}
 .many{gap:4px;padding:4px}.many #points{gap:3px}.many #points section{border-left-width:4px}
 .many header{font-size:clamp(12px,.95vw,24px)}
 .many footer{font-size:clamp(11px,.85vw,20px);gap:3px}
-@container (width < 180px){#products :is(b,.price){font-size:min(1.15em,96cqw/(var(--m)*.68))}}
+@container (width < 180px){.took{--most:1.15em}}
 .many #tills{display:grid;grid-template-columns:repeat(auto-fill,minmax(12.9em,1fr));gap:0 .6em;
 line-height:1.15}
-#products .price{margin-left:auto}
 #tills{display:flex;flex-wrap:wrap;gap:0 1.4em;grid-column:1/3}
 #tills span{white-space:nowrap}
 footer details{position:relative;border:1px solid var(--edge);background:var(--card)}
@@ -119,16 +126,23 @@ border:2px solid var(--ink);padding:.6em 1em;max-width:calc(100vw - 12px);overfl
 summary{cursor:pointer;white-space:nowrap}
 table{border-collapse:collapse}
 caption{text-align:left;color:var(--dim);padding-bottom:.3em}
-td,th{padding:.1em .6em .1em 0;text-align:right;white-space:nowrap;border-top:1px solid var(--edge)}
+td,th{padding:.1em .6em .1em 0;text-align:right;vertical-align:top;white-space:pre;
+border-top:1px solid var(--edge);font-weight:400}
 td:first-child,th:first-child{text-align:left}thead th:first-child{min-width:4em}
-thead th{border:0;color:var(--dim)}
+thead th{border:0;color:var(--dim);font-weight:700}
 #figures{overflow:auto;background:var(--card);padding:1em;font-size:14px}
-#figures>div{columns:27em;column-gap:2.5em}
+#figures>div{columns:27em;column-gap:2em}
 #figures .wide{column-span:all}
 #figures h2{font-size:1.3em;margin-bottom:.3em}
 #figures section{margin-bottom:1.4em;break-inside:avoid;max-width:100%;overflow-x:auto}
-#figures .long{break-inside:auto}
+#figures .long{break-inside:auto}.long :is(td,th){padding-right:.35em}
+#figures .long th{min-width:0;font-weight:400}
 #seal{overflow-wrap:anywhere}
+#ended div{columns:33em;column-gap:2.5em}
+#closed tbody{break-inside:avoid}#closed tr+tr td{border:0}
+#closed th,#closed tr:first-child td{min-width:0;font-weight:700}
+button{margin-top:.5em;padding:.3em .8em;font:inherit;color:var(--ink);background:var(--flat);
+border:1px solid var(--edge);cursor:pointer}
 @media (max-width:1100px),(max-height:640px){html,body{height:auto}body{display:block}
 header{position:sticky;top:0;z-index:1;background:var(--bg);padding:2px 0}
 #points{grid-template-columns:repeat(auto-fill,minmax(17em,1fr));grid-auto-rows:auto}
@@ -139,7 +153,8 @@ footer details[open]>div{position:static;border:0}}
 @media (max-width:700px){#points{grid-template-columns:minmax(0,1fr)}.tile{font-size:16px}
 #state{order:-1;width:100%;font-size:1.3em}#clock{font-size:1.3em}
 #products,#tills,.many #tills{display:grid;grid-template-columns:repeat(2,minmax(0,1fr))}
-nav{margin:0}nav a{padding:.4em .2em}#figures{font-size:13px;padding:.6em}}
+nav{margin:0}nav a{padding:.4em .2em}#figures{font-size:13px;padding:.6em}
+#closed td{white-space:normal;padding-right:.4em}}
 </style>
 </head>
 <body>
@@ -155,14 +170,19 @@ nav{margin:0}nav a{padding:.4em .2em}#figures{font-size:13px;padding:.6em}}
 <table><thead></thead><tbody id="parts"></tbody></table>
 </section>
 <section><h2 id="since">This shift</h2><table><thead></thead><tbody id="takings"></tbody></table>
+<table><caption>Its litres and money by product</caption>
+<thead></thead><tbody id="sold"></tbody></table>
 </section>
 <section><h2>History</h2><p id="rows"></p><p id="seal"></p></section>
 <section><h2 id="peers">Connections</h2><table><thead></thead><tbody id="sessions"></tbody></table>
 </section>
+<section class="wide" id="ended"><h2 id="closed-shifts" tabindex="-1">Closed shifts</h2>
+<div><table id="closed" aria-labelledby="closed-shifts"><thead></thead></table></div>
+<p id="none-closed"></p><button id="earlier" type="button" hidden>earlier shifts</button></section>
 <section class="long"><h2>Meters, in litres</h2>
 <table><thead></thead><tbody id="meters"></tbody></table></section>
 </div></main>
-<footer><details id="more"><summary>litres<br>metered</summary><div><table>
+<footer><details id="more"><summary>litres<br>this shift</summary><div><table>
 <caption>Litres since the first row, and what became of them</caption>
 <thead></thead><tbody id="shares"></tbody></table></div></details>
 <div id="products" role="group" aria-label="products"></div>
@@ -172,8 +192,12 @@ nav{margin:0}nav a{padding:.4em .2em}#figures{font-size:13px;padding:.6em}}
 const PARTS = ['running', 'payable', 'locked', 'cleared', 'adjusted'];
 const SUBNETS = new Map([[2, 'till'], [3, 'dispenser']]);
 const CALLING = 4, MOST_WAIT = 3000, PAUSE = 1000;
-// The time of the last answer; since when what is so has been so; what was so then.
-let heard = null, begun = new Map(), told = null;
+const SHIFTS = 64;  // that one answer has at most
+const AGAIN = 10000;  // after which shifts that didn't come are asked for again
+// The time of the last answer; what was so then; the site of it; since when this page saw it so.
+let heard = null, told = null, last = null, begun = new Map();
+// The closed shifts that came, by their numbers; which shift was open when they were asked for.
+let closed = new Map(), asked = null;
 
 const at = id => document.getElementById(id);
 // A number with its thousands apart.
@@ -213,11 +237,11 @@ function putLong(node, text) {
 const wide = text => text.length - text.replace(/[^ .,:/il]/g, '').length / 2;
 
 // Tells the style how wide a line is, so that it stays within its tile: --n where its second text
-// is half as large as the first, and the third a third; --m where all are alike.
-function count(node, large, half = '', third = '') {
-  const [a, b, c] = [large, half, third].map(wide);
-  node.style.setProperty('--n', Math.max(1, a + b / 2 + c * .38));
-  node.style.setProperty('--m', Math.max(1, a + b + c));
+// is half as large as the first; --m where both are alike.
+function count(node, large, half = '') {
+  const [a, b] = [large, half].map(wide);
+  node.style.setProperty('--n', Math.max(1, a + b / 2));
+  node.style.setProperty('--m', Math.max(1, a + b));
 }
 
 // As many children of this kind as there are values, each filled by its value.
@@ -244,20 +268,20 @@ function table(body, head, lines) {
   fill(body, 'tr', lines, (row, words) => fill(row, 'td', words, write));
 }
 
-// ---- what site.json has no member for: what is still due of a sale, and how long something is so
-
-const due = sale => sale.cents - (sale.prepaid ?? 0);
-
-// How long something has been so, as far as this page saw it.
-function since(key, site) {
-  if (!site.begun.has(key)) site.begun.set(key, begun.get(key) ?? site.now);
-  return length(site.now - site.begun.get(key));
+// How long something has been so: by the station's clock since this time; where it doesn't tell
+// both, as far as this page saw it.
+function age(key, time, site) {
+  site.begun.set(key, site.begun.get(key) ?? begun.get(key) ?? site.now);
+  const passed = new Date(site.at ?? NaN) - new Date(time ?? NaN);
+  return length(Math.max(0, isNaN(passed) ? site.now - site.begun.get(key) : passed));
 }
+
+const isPaid = sale => sale['due cents'] === 0 && sale['back cents'] === 0;
 
 function dueWords(sale) {
   if (sale.prepaid === null) return money(sale.cents);
-  const left = due(sale);
-  return left === 0 ? 'nothing due' : left > 0 ? money(left) + ' due' : money(-left) + ' back';
+  const due = sale['due cents'], back = sale['back cents'];
+  return due > 0 ? money(due) + ' due' : back > 0 ? money(back) + ' back' : 'nothing due';
 }
 
 // ---- pumps
@@ -270,19 +294,20 @@ function saleName(sale, shift) {
 }
 
 function showSale(box, sale, site) {
-  box.className = 'due ' + sale.status + (due(sale) === 0 ? ' paid' : '');
+  box.className = 'due ' + sale.status + (isPaid(sale) ? ' paid' : '');
   const figs = part(box, 'div', 'figs'), rest = part(box, 'div', 'rest');
   const line = part(box, 'div', 'line');
   const name = saleName(sale, site.shift), flowed = litres(sale.millilitres) + ' l';
   const sum = dueWords(sale), product = site.names.get(sale.product);
   const prepaid = sale.prepaid === null ? '' : money(sale.prepaid) + ' prepaid,';
   const by = sale.status === 'locked' ? 'till ' + sale.till + ' is collecting' :
-    (due(sale) > 0 ? 'payable ' : 'to clear ') + since('payable ' + saleKey(sale), site);
+    (sale['due cents'] > 0 ? 'payable ' : 'to clear ') +
+      age('payable ' + saleKey(sale), site.sales.get(saleKey(sale)), site);
   put(part(figs, 'span', 'name'), name);
   put(part(figs, 'span', 'flowed'), flowed);
   put(part(figs, 'span', 'prepaid'), prepaid);
   put(part(figs, 'span', 'sum'), prepaid === '' ? sum : '');
-  count(figs, flowed + '  ' + (prepaid === '' ? sum : ''), name, prepaid);
+  count(figs, flowed + '  ' + (prepaid === '' ? sum : ''), name + prepaid);
   put(part(rest, 'span', 'sum'), prepaid === '' ? '' : sum);
   count(rest, sum);
   rest.hidden = prepaid === '';
@@ -293,9 +318,9 @@ function showSale(box, sale, site) {
 
 function presetWords(fuelling) {
   if (fuelling.prepaid !== null) {
-    const left = fuelling.prepaid - (fuelling.cents ?? 0);
+    const left = fuelling['left cents'], over = (fuelling.cents ?? 0) - fuelling.prepaid;
     return money(fuelling.prepaid) + ' prepaid' + (fuelling.cents === null ? '' :
-      ', ' + money(Math.abs(left)) + (left < 0 ? ' over' : ' left'));
+      ', ' + (over > 0 ? money(over) + ' over' : money(left) + ' left'));
   }
   if (fuelling['preset cents'] !== null) return 'for ' + money(fuelling['preset cents']);
   const volume = fuelling['preset millilitres'];
@@ -323,11 +348,11 @@ function showPoint(section, point, site) {
   const number = part(head, 'h2', 'number');
   put(number, String(point.number));
   number.setAttribute('aria-label', 'Pump ' + point.number);
-  const age = calls ? since('calling ' + point.number, site) : '';
+  const waits = calls ? age('calling ' + point.number, site.calls.get(point.number), site) : '';
   put(part(head, 'span', 'state'), point['state name']);
-  put(part(head, 'span', 'age'), age);
+  put(part(head, 'span', 'age'), waits);
   put(part(head, 'span', 'last'), clock(heard));
-  count(head, point['state name'] + ' ' + age);
+  count(head, point['state name'] + ' ' + waits);
   const flowed = flows ? litres(fuelling.millilitres) + ' l' : '';
   const sum = !flows ? '' : fuelling.test ? 'test' : money(fuelling.cents);
   put(part(run, 'span', 'flowed'), flowed);
@@ -364,14 +389,27 @@ function showPoint(section, point, site) {
 
 // ---- the foot, and the second view
 
+// Money of a product; nothing where the station doesn't tell it.
+const moneyIf = cents => cents == null ? '' : spaced(money(cents));
+
+// What a product took in the open shift, and its price.
 function showProduct(box, product) {
-  const title = part(box, 'h2', 'title'), line = part(box, 'p', 'metered');
-  const metered = spaced(litres(product.metered)) + ' l', price = mills(product.mills);
-  put(title, product.name);
-  count(title, product.name);
-  put(part(line, 'b', 'flowed'), metered);
-  put(part(line, 'span', 'price'), price);
-  count(line, metered + ' ', price);
+  const one = part(box, 'div', 'took'), price = mills(product.mills);
+  const cleared = spaced(litres(product.cleared)) + ' l', taken = moneyIf(product.cents);
+  const lines = [['h2', 'title', '--name', product.name], ['span', 'price', '--price', price],
+    ['b', 'flowed', '--flow', cleared], ['b', 'taken', '--sum', taken]];
+  for (const [name, kind, width, text] of lines) {
+    put(part(one, name, kind), text);
+    one.style.setProperty(width, Math.max(1, wide(text)));
+  }
+}
+
+// Below a reading: how its meter was replaced, and how far its readings jumped thereby.
+function jumpWords(jump) {
+  if (jump === undefined) return '';
+  const up = jump.raised - jump.lowered, times = jump.replaced;
+  return '\nreplaced ' + (times === 1 ? 'once' : times + ' times') + ',\n' + (up < 0 ? '-' : '+') +
+    exact(Math.abs(up));
 }
 
 function showTill(line, till) {
@@ -394,15 +432,97 @@ function showFigures(site, tills) {
   const lines = site.products.map(product => [product.number + ' ' + product.name,
     ...PARTS.map(name => exact(product[name])), exact(product.metered)]);
   for (const id of ['parts', 'shares']) table(at(id), ['', ...PARTS, 'metered'], lines);
-  table(at('meters'), ['', 'nozzle', 'product', 'reads'], site.points.flatMap(point =>
-    point.nozzles.map(nozzle => ['pump ' + point.number, String(nozzle.number),
-      site.names.get(nozzle.product), exact(nozzle.reading)])));
+  table(at('sold'), ['', 'cleared', 'for'], site['shift products'].map(product =>
+    [product.number + ' ' + site.names.get(product.number), exact(product.cleared) +
+      (product.drawn === 0 ? '' : '\n' + exact(product.drawn) + ' in tests'),
+      moneyIf(product.cents)]));
+  const jumps = new Map((site.jumps ?? []).map(jump => [jump.point + '/' + jump.nozzle, jump]));
+  table(at('meters'), ['pump', 'nozzle', 'product', 'reads'], site.points.flatMap(point =>
+    point.nozzles.map(nozzle => [String(point.number), String(nozzle.number),
+      site.names.get(nozzle.product), exact(nozzle.reading) +
+        jumpWords(jumps.get(point.number + '/' + nozzle.number))])));
   put(at('peers'), site.connections + ' connections');
   table(at('sessions'), ['', 'since', 'heard'], site.sessions.map(session => [nodeName(session),
     session.since === null ? '' : moment(new Date(session.since)),
     session['quiet seconds'] + ' s ago']));
   put(at('rows'), site.rows + ' rows');
   put(at('seal'), site.seal === null ? '' : 'last seal ' + site.seal);
+}
+
+// ---- closed shifts
+
+const momentIf = time => time === null ? '' : moment(new Date(time));
+
+// What a shift took, and below it what each product took.
+function showShift(body, shift) {
+  const write = (cell, text) => cell.textContent = text;
+  const products = shift.products.map(product => [last.names.get(product.number),
+    exact(product.cleared) + '\u00a0l', moneyIf(product.cents)]);
+  fill(body, 'tr', [[momentIf(shift.opened), momentIf(shift.closed), String(shift.clears),
+    spaced(money(shift.cents))], ...products], (row, words) => {
+    const first = row === body.firstElementChild ? 1 : 0;
+    if (first === 1) write(part(row, 'th', 'number'), shift.shift);
+    while (row.cells.length < first + words.length) row.insertCell();
+    words.forEach((word, n) => write(row.cells[first + n], word));
+    if (first === 0) row.cells[0].colSpan = 2;
+  });
+  const number = body.querySelector('th');
+  number.scope = 'rowgroup';
+  number.rowSpan = 1 + products.length;
+}
+
+function showClosed() {
+  const shifts = [...closed.values()].sort((a, b) => b.shift - a.shift);
+  const box = at('closed'), heads = ['shift', 'opened', 'closed', 'clears', 'for'];
+  box.hidden = shifts.length === 0;
+  fill(box.tHead, 'tr', [heads], (row, words) =>
+    fill(row, 'th', words, (cell, text) => cell.textContent = text));
+  while (box.tBodies.length > shifts.length) box.lastElementChild.remove();
+  while (box.tBodies.length < shifts.length) box.createTBody();
+  shifts.forEach((shift, n) => showShift(box.tBodies[n], shift));
+  put(at('none-closed'), shifts.length === 0 ? 'none' : '');
+  at('earlier').hidden = shifts.length === 0 || shifts.at(-1).shift === 1;
+}
+
+// Asks for the shifts from this one on.
+async function askShifts(from) {
+  const into = closed;
+  try {
+    const answer = await fetch('/shifts?from=' + Math.max(1, from),
+      {cache: 'no-store', signal: AbortSignal.timeout(MOST_WAIT)});
+    if (!answer.ok) throw new Error(answer.status);
+    for (const line of (await answer.text()).split('\n').filter(line => line !== '')) {
+      const shift = JSON.parse(line);
+      if (!shift.open) into.set(shift.shift, shift);
+    }
+    if (into === closed) showClosed();
+  } catch {
+    if (into !== closed) return;
+    put(at('none-closed'), 'no answer');
+    setTimeout(() => asked = into === closed ? null : asked, AGAIN);
+  }
+}
+
+// The last ones are asked for once while the second view is seen, and when another shift is open.
+function followShifts() {
+  if (at('figures').hidden || last === null || asked === last.shift) return;
+  asked = last.shift;
+  askShifts(asked - SHIFTS + 1);
+}
+
+function forgetShifts() {
+  closed = new Map();
+  asked = null;
+}
+
+// Who used the button hears which shifts are there; where it is gone the heading has the focus.
+async function askEarlier() {
+  if (asked === null) return;
+  const first = Math.min(asked, ...closed.keys());
+  await askShifts(first - SHIFTS);
+  const now = Math.min(asked ?? first, ...closed.keys());
+  if (now < first) at('news').textContent = 'closed shifts from ' + now;
+  if (at('earlier').hidden) at('closed-shifts').focus();
 }
 
 // What changed since the last answer, for who listens to the page.
@@ -422,8 +542,8 @@ function tellNews(site) {
 
 function headWords(site) {
   const calls = site.points.filter(point => point.state === CALLING).length;
-  const open = site.transactions.filter(sale => due(sale) > 0);
-  const sum = open.reduce((cents, sale) => cents + due(sale), 0);
+  const open = site.transactions.filter(sale => sale['due cents'] > 0);
+  const sum = site['due cents'];
   const paid = site.transactions.length - open.length;
   return list([calls + ' calling', open.length + ' unpaid' +
     (open.length === 0 ? '' : ' ' + spaced(money(sum))), paid === 0 ? '' : paid + ' prepaid']);
@@ -432,17 +552,25 @@ function headWords(site) {
 function show(answer) {
   heard = answer.at === null ? new Date() : new Date(answer.at);
   const site = {...answer, now: performance.now(), begun: new Map(),
-    names: new Map(answer.products.map(product => [product.number, product.name]))};
+    names: new Map(answer.products.map(product => [product.number, product.name])),
+    calls: new Map((answer.calling ?? []).map(one => [one.point, one.since])),
+    sales: new Map((answer.sold ?? []).map(one => [saleKey(one), one.at]))};
   const size = site.points.length, points = at('points');
   const columns = size > 42 ? 8 : size > 20 ? 6 : size > 12 ? 5 : size > 6 ? 4 : 3;
   points.style.setProperty('--cols', columns);
   document.body.classList.toggle('many', size > 20);
   fill(points, 'section', site.points, (section, point) => showPoint(section, point, site));
-  begun = site.begun;
   const tills = site.tills.filter(till => till['signed on'] || till.clears > 0);
-  fill(at('products'), 'section', site.products, showProduct);
+  const sold = new Map(site['shift products'].map(product => [product.number, product]));
+  fill(at('products'), 'section', site.products, (box, product) =>
+    showProduct(box, {...product, ...sold.get(product.number)}));
   fill(at('tills'), 'span', tills, showTill);
   showFigures(site, tills);
+  if (last !== null && site.shift < last.shift) forgetShifts();
+  last = site;
+  begun = site.begun;
+  followShifts();
+  put(at('name'), site.name ?? 'Forecourt');
   put(at('date'), day(heard));
   put(at('clock'), clock(heard));
   put(at('state'), headWords(site));
@@ -457,6 +585,7 @@ function lose() {
   put(at('state'), words);
   document.title = words;
   document.body.classList.add('lost');
+  forgetShifts();
 }
 
 async function look() {
@@ -480,9 +609,12 @@ function turn() {
   at('figures').hidden = !second;
   at(second ? 'to-figures' : 'to-points').setAttribute('aria-current', 'page');
   at(second ? 'to-points' : 'to-figures').removeAttribute('aria-current');
+  forgetShifts();
+  followShifts();
 }
 
 addEventListener('hashchange', turn);
+at('earlier').addEventListener('click', askEarlier);
 turn();
 look();
 </script>

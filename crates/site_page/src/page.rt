@@ -5,21 +5,23 @@ ghost use Rattle.http_server.specs.Response.{IsBlank, IsResponse};
 ghost use Rattle.site_book.specs.Book.{is_full};
 ghost use Rattle.site_json.specs.Transactions.{unpaid_data};
 ghost use Rattle.site_page.specs.declared.html.TheConstants.{PAGE};
-ghost use Rattle.site_page.specs.PageAnswers.{IsHealthAnswer, IsJson, IsMetricsAnswer, IsNothing};
-ghost use Rattle.site_page.specs.PageAnswers.{IsPageAnswer};
-ghost use Rattle.site_page.specs.PageAnswers.{IsPathAnswer};
-ghost use Rattle.site_page.specs.PageAnswers.{IsSealAnswer, IsUnpaidAnswer, methods_fields};
-ghost use Rattle.site_page.specs.PageAnswers.{page_fields, shown_data};
+ghost use Rattle.shift_table.specs.declared.form.Form.TheVariants.{Json};
+ghost use Rattle.shift_table.specs.ShiftTable.{shifts_from};
+ghost use Rattle.site_page.specs.PageAnswers.{AreShifts, IsHealthAnswer, IsJson, IsMetricsAnswer};
+ghost use Rattle.site_page.specs.PageAnswers.{IsNothing, IsPageAnswer, IsPathAnswer, IsSealAnswer};
+ghost use Rattle.site_page.specs.PageAnswers.{IsShiftsAnswer, IsUnpaidAnswer, methods_fields};
+ghost use Rattle.site_page.specs.PageAnswers.{page_fields, shifts_fields, shown_data};
 
 use crate::html::PAGE;
 use crate::policy::POLICY;
-use crate::query::{Asked, read_query};
-use crate::texts::{put_json, put_line, put_metrics_text};
+use crate::query::{Asked, read_first, read_query};
+use crate::texts::{put_json, put_line, put_lines, put_metrics_text};
 use bytes::Bytes;
 use http::{HeaderValue, Request, StatusCode, header};
 use http_server::{Response, Service};
-use row_tally::RowTally;
-use site_base::FpNo;
+use row_tally::{RowTally, TimesReader};
+use shift_table::{Form, shifts_from};
+use site_base::{FpNo, NoMemory, ShiftNo};
 use site_book::{NamedSale, SiteBook};
 use site_gaps::station_text;
 use site_json::{PeerSession, unpaid_text};
@@ -40,6 +42,7 @@ pub struct Page<'a> {
     opened: Option<Stamp>,
     seal: Option<&'a str>,
     tally: Option<&'a RowTally>,
+    name: Option<&'a str>,
 }
 
 impl<'a> Model for Page<'a> {
@@ -57,13 +60,15 @@ impl<'a> Model for Page<'a> {
       opened = p.opened;
       seal = option_copied p.seal;
       tally = option_copied p.tally;
+      name = option_copied p.name;
     } };
 }
 
 impl<'a> Page<'a> {
     /// The page of a book's site at this time, if it is known, with these transactions, which the
     /// caller has found unpaid, what the station counts, these sessions, of its history the time of
-    /// the open shift's first row and the last seal, and the tally of its rows, if there is one.
+    /// the open shift's first row and the last seal, the tally of its rows, if there is one, and
+    /// the site's name, if it has one.
     pub fn new(
         alloc: Global,
         book: &'a SiteBook,
@@ -74,6 +79,7 @@ impl<'a> Page<'a> {
         opened: Option<Stamp>,
         seal: Option<&'a str>,
         tally: Option<&'a RowTally>,
+        name: Option<&'a str>,
     ) -> Page<'a>
         ensures book { result.book ≡ book.now }
         ensures unpaid { result.unpaid ≡ unpaid.now }
@@ -83,6 +89,7 @@ impl<'a> Page<'a> {
         ensures opened { result.opened ≡ opened }
         ensures seal { result.seal ≡ option_copied seal.entry }
         ensures tally { result.tally ≡ option_copied tally.entry }
+        ensures name { result.name ≡ option_copied name.entry }
     {
         Page {
             alloc,
@@ -94,6 +101,7 @@ impl<'a> Page<'a> {
             opened,
             seal,
             tally,
+            name,
         }
     }
 
@@ -111,6 +119,7 @@ impl<'a> Page<'a> {
             opened: self.opened,
             seal: self.seal,
             tally: self.tally,
+            name: self.name,
         }
     }
 
@@ -133,6 +142,7 @@ impl<'a> Page<'a> {
             "/metrics" => self.put_metrics(response),
             "/healthz" => self.put_health(response),
             "/seal" => self.put_seal(response),
+            "/shifts" => self.put_shifts(query, response),
             _ => refuse_path(response),
         }
     }
@@ -152,6 +162,7 @@ impl<'a> Page<'a> {
             self.opened,
             self.seal,
             self.tally,
+            self.name,
         ) {
             Ok(text) => put_json(text, response),
             Err(_) => Err(AllocError),
@@ -183,6 +194,44 @@ impl<'a> Page<'a> {
         match unpaid_text(self.alloc, self.unpaid, point) {
             Ok(text) => put_json(text, response),
             Err(_) => Err(AllocError),
+        }
+    }
+
+    /// The shifts from the one on that this query asks for.
+    #[tactic(auto, using(crate::proofs::Answering::asked))]
+    fn put_shifts(&self, query: Option<&str>, response: &mut Response) -> Result<(), AllocError>
+        requires { IsBlank response.old }
+        ensures { OnOk result
+            (IsShiftsAnswer self.now (option_copied query.entry) response.new) }
+    {
+        match read_first(query) {
+            Some(first) => self.put_shifts_from(first, response),
+            None => {
+                let line = Bytes::from_static(b"ask for /shifts or /shifts?from=N\n");
+                put_line(StatusCode::BAD_REQUEST, line, response)
+            }
+        }
+    }
+
+    /// The shifts from this one on.
+    fn put_shifts_from(&self, first: ShiftNo, response: &mut Response) -> Result<(), AllocError>
+        requires { IsBlank response.old }
+        ensures { OnOk result (AreShifts first self.now response.new) }
+    {
+        match self.tally {
+            Some(tally) => {
+                put_shift_lines(
+                    self.alloc,
+                    self.book,
+                    tally.moments().shifts(),
+                    first,
+                    response,
+                )
+            }
+            None => {
+                let times = TimesReader::new(self.alloc);
+                put_shift_lines(self.alloc, self.book, &times, first, response)
+            }
         }
     }
 
@@ -235,8 +284,8 @@ impl<'a> Service for Page<'a> {
 
     /// `GET` and `HEAD` of `/` are answered with the page, of `/site.json` with the site, of
     /// `/unpaid` with the unpaid transactions, of `/metrics` with the figures, of `/healthz` with
-    /// whether rows can be added, of `/seal` with the last seal, if there is a history; of any other path it is 404, and for any
-    /// other method 405.
+    /// whether rows can be added, of `/seal` with the last seal, if there is a history, of
+    /// `/shifts` with the shifts; of any other path it is 404, and for any other method 405.
     fn call(
         &mut self,
         request: &Request<Bytes>,
@@ -275,6 +324,24 @@ fn put_page(response: &mut Response) -> Result<(), AllocError>
         HeaderValue::from_static("nosniff"),
     )?;
     response.body.push(Bytes::from_static(PAGE.as_bytes()))
+}
+
+/// The shifts of a book from this one on, which were opened and closed at these times.
+fn put_shift_lines(
+    alloc: Global,
+    book: &SiteBook,
+    times: &TimesReader,
+    first: ShiftNo,
+    response: &mut Response,
+) -> Result<(), AllocError>
+    requires { IsBlank response.old }
+    ensures { OnOk result (IsResponse 200 shifts_fields
+        (shifts_from first Json book.now times.now) response.new) }
+{
+    match shifts_from(alloc, book, times, Form::Json, first) {
+        Ok(text) => put_lines(text, response),
+        Err(NoMemory) => Err(AllocError),
+    }
 }
 
 /// That there is no such path.

@@ -5,6 +5,6 @@
 pub const POLICY: &str = concat!(
     "default-src 'none'; base-uri 'none'; form-action 'none'; frame-ancestors 'none'; ",
     "connect-src 'self'; ",
-    "style-src 'sha256-fI930qTjU/4zxx9tSXDKs94h7Ir3pBojej7uSC452+A='; ",
-    "script-src 'sha256-QfEkiAOtSK6d8DjxLFJsAyI93ZXfObpKwHWHhPQtnJo='",
+    "style-src 'sha256-ejKG0ED8LAAccW+CzoGK17zHmiWVffnsGo5vUjsHCF0='; ",
+    "script-src 'sha256-8atzNEPfiy4cKA6PMc5gRrQT8owbhPNR6aFTun5BXqI='",
 );

@@ -2,7 +2,8 @@
 
 ghost use Rattle.std.specs.Prelude.{◌≡◌, [], OnOk, string_bytes};
 ghost use Rattle.http_server.specs.Response.{IsBlank, IsResponse, fields_of};
-ghost use Rattle.site_page.specs.PageAnswers.{IsLine, metrics_fields, site_fields, text_fields};
+ghost use Rattle.site_page.specs.PageAnswers.{IsLine, metrics_fields, shifts_fields, site_fields};
+ghost use Rattle.site_page.specs.PageAnswers.{text_fields};
 
 use bytes::Bytes;
 use http::{HeaderValue, StatusCode, header};
@@ -15,6 +16,15 @@ pub(crate) fn put_json(text: String, response: &mut Response) -> Result<(), Allo
     ensures { OnOk result (IsResponse 200 site_fields (string_bytes text) response.new) }
 {
     put_fields(HeaderValue::from_static("application/json"), response)?;
+    response.body.push(Bytes::from_string(text)?)
+}
+
+/// Lines of JSON.
+pub(crate) fn put_lines(text: String, response: &mut Response) -> Result<(), AllocError>
+    requires { IsBlank response.old }
+    ensures { OnOk result (IsResponse 200 shifts_fields (string_bytes text) response.new) }
+{
+    put_fields(HeaderValue::from_static("application/x-ndjson"), response)?;
     response.body.push(Bytes::from_string(text)?)
 }
 

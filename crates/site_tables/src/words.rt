@@ -1,5 +1,5 @@
 //! The words of tables: sites and events in words, read into what a site is given, in order.
-//! docs/PROFILE.md has the grammar.
+//! docs/PROGRAM.md has the grammar.
 
 mod draft;
 mod event;

@@ -272,7 +272,7 @@ fn serve_peers<R: StationHost, T: Threads + Wait + Sync, I: Read + Send + Drop +
     requires off { HasNobodyOn connections.old.stored.station.book }
     requires found { IsFound found connections.old.stored.journal }
 {
-    match listen(rt, doors, plans.station) {
+    match listen(rt, doors, plans.station, options.name) {
         Ok(mut server) => {
             let end = serve_until_end(
                 rt,
@@ -380,10 +380,11 @@ fn listen<R: Net + Clock + RandomSource + AllocGlobal>(
     rt: &R,
     doors: Doors,
     plan: StationPlan,
+    name: Option<&str>,
 ) -> Result<StationServer, ServerFault> {
     let has_feed = plan.feed.is_some() || doors.has_feed();
     let mut server = StationServer::bind(rt, rt, rt.alloc(), plan.port, doors)?;
-    match listen_for_others(rt, &mut server, plan, has_feed) {
+    match listen_for_others(rt, &mut server, plan, name, has_feed) {
         Ok(()) => Ok(server),
         Err(fault) => {
             server.close();
@@ -392,15 +393,17 @@ fn listen<R: Net + Clock + RandomSource + AllocGlobal>(
     }
 }
 
-/// Listens for browsers if there is a page, and for peers of the feed if there is one.
+/// Listens for browsers if there is a page, which shows this name, and for peers of the feed if
+/// there is one.
 fn listen_for_others<R: Net + RandomSource>(
     rt: &R,
     server: &mut StationServer,
     plan: StationPlan,
+    name: Option<&str>,
     has_feed: bool,
 ) -> Result<(), ServerFault> {
     if let Some(port) = plan.page {
-        server.bind_page(rt, rt, port)?;
+        server.bind_page(rt, rt, port, name)?;
     }
     if has_feed {
         server.bind_feed(rt, plan.feed)?;

@@ -8,7 +8,7 @@ use Rattle.site_book.specs.Book.{Book, site_of_book}
 use Rattle.station_server.specs.declared.fault.ServerFault.{ServerFault}
 use Rattle.station_server.specs.declared.fault.ServerFault.TheVariants as servers
 use Rattle.day_base.specs.declared.fault.DayFault.{DayFault}
-use Rattle.day_base.specs.declared.fault.DayFault.TheVariants.{NoConnection, NoMemory, Write}
+use Rattle.day_base.specs.declared.fault.DayFault.TheVariants.{Deaf, NoConnection, NoMemory, Write}
 use Rattle.day_base.specs.declared.plan.ReportForm.{ReportForm}
 use Rattle.day_base.specs.Texts.{report_in}
 use Rattle.station.specs.Gates.{GateState}
@@ -34,6 +34,7 @@ station_text gates opens places form moves =
 abbrev pub ended_by : ServerFault → DayFault
 ended_by servers.NoMemory = NoMemory
 ended_by servers.NoConnection = NoConnection
+ended_by (servers.Deaf port) = Deaf port
 ended_by servers.NotStored = Write writes.Failed
 
 -- the whole text of a day was written, whose moves led to this station, and in which each read of a

@@ -14,6 +14,7 @@ pub fn to_day_fault(fault: ServerFault) -> DayFault
     match fault {
         ServerFault::NoMemory => DayFault::NoMemory,
         ServerFault::NoConnection => DayFault::NoConnection,
+        ServerFault::Deaf(port) => DayFault::Deaf(port),
         ServerFault::NotStored => DayFault::Write(WriteFault::Failed),
     }
 }

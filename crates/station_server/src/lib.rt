@@ -9,9 +9,11 @@
 //! clock are the system's.
 #![tactic(auto)]
 
+mod arrivals;
 mod doors;
 mod fault;
 mod listeners;
+mod onlookers;
 mod round_clock;
 mod server;
 mod sessions;

@@ -6,7 +6,6 @@ use feed_connections::Feeds;
 use mio::net::{TcpListener, TcpStream, UnixListener};
 use mio::{Interest, Poll, Token};
 use std::hash::RandomState;
-use std::io;
 use std::net::{Ipv4Addr, Net, SocketAddr, SocketAddrV4};
 use std::random::RandomSource;
 
@@ -35,9 +34,11 @@ pub(crate) fn watch_port<N: Net>(
     poll: &Poll,
     port: u16,
     token: Token,
-) -> io::Result<(TcpListener, u16)> {
+) -> Result<(TcpListener, u16), ServerFault> {
     let here = SocketAddr::V4(SocketAddrV4::new(Ipv4Addr::LOCALHOST, port));
-    let mut listener = TcpListener::bind(net, here)?;
+    let Ok(mut listener) = TcpListener::bind(net, here) else {
+        return Err(ServerFault::of_port(port));
+    };
     let port = listener.local_addr()?.port();
     poll.registry()
         .register(&mut listener, token, Interest::READABLE)?;
@@ -50,7 +51,7 @@ pub(crate) fn listen_for_page<N: Net, R: RandomSource>(
     rt: &R,
     poll: &Poll,
     port: u16,
-) -> io::Result<(TcpListener, u16, RandomState)> {
+) -> Result<(TcpListener, u16, RandomState), ServerFault> {
     let keys = RandomState::new(rt)?;
     let (listener, port) = watch_port(net, poll, port, PAGE_LISTENER)?;
     Ok((listener, port, keys))
@@ -61,7 +62,7 @@ pub(crate) fn listen_for_peers<N: Net>(
     net: &N,
     poll: &Poll,
     port: Option<u16>,
-) -> io::Result<(Option<TcpListener>, Option<u16>)> {
+) -> Result<(Option<TcpListener>, Option<u16>), ServerFault> {
     match port {
         None => Ok((None, None)),
         Some(port) => {
@@ -81,13 +82,9 @@ pub(crate) fn add_feed_port<N: Net>(
     let Some(port) = port else {
         return Ok(None);
     };
-    match watch_port(net, poll, port, FEED_LISTENER) {
-        Ok((listener, port)) => {
-            feeds.listen(listener)?;
-            Ok(Some(port))
-        }
-        Err(_) => Err(ServerFault::NoConnection),
-    }
+    let (listener, port) = watch_port(net, poll, port, FEED_LISTENER)?;
+    feeds.listen(listener)?;
+    Ok(Some(port))
 }
 
 /// Peers of the feed come at this door, if there is one, too.

@@ -44,3 +44,12 @@ impl RoundClock {
         self.waited
     }
 }
+
+/// The lesser of two times, where there are both.
+pub(crate) fn sooner(one: Option<Duration>, other: Option<Duration>) -> Option<Duration> {
+    match (one, other) {
+        (Some(one), Some(other)) if other < one => Some(other),
+        (None, other) => other,
+        (one, _) => one,
+    }
+}

@@ -1,12 +1,10 @@
 //! The server: it waits until connections are ready, round after round.
 
-ghost use Rattle.std.specs.Prelude.{◌≡◌, ◌<◌, IfSome, None, OnOk, Some, length, true};
+ghost use Rattle.std.specs.Prelude.{◌≡◌, ◌<◌, OnOk, length, true};
 ghost use Rattle.station.specs.declared.sizes.TheConstants.{PEERS};
 ghost use Rattle.station.specs.Reads.{HasNoPeer};
-ghost use Rattle.feed_connections.specs.Served.{AreServed};
 ghost use Rattle.journal.specs.Stored.{JournalGoesOn, is_all_stored};
-ghost use Rattle.peer_connections.specs.Allowed.{IsDismissal, IsFollowing, IsHeard, IsHearing};
-ghost use Rattle.peer_connections.specs.Allowed.{IsWelcome};
+ghost use Rattle.peer_connections.specs.Allowed.{IsFollowing, IsHeard, IsHearing};
 ghost use Rattle.peer_connections.specs.Due.{StayDue, is_due};
 ghost use Rattle.peer_connections.specs.Reaches.{Reaches, ReachesBy};
 ghost use Rattle.peer_connections.specs.Sending.{AreSentTo, HasChange, KeepsChanges, OwedAreDue};
@@ -15,25 +13,23 @@ ghost use Rattle.peer_connections.specs.Sending.{OwedAreSentTo};
 use crate::doors::Doors;
 use crate::fault::ServerFault;
 use crate::listeners::{
-    FEED_DOOR, FEED_LISTENER, LISTENER, PAGE_LISTENER, WAKER, accept_at, add_feed_door,
-    add_feed_port, listen_for_page, listen_for_peers,
+    LISTENER, WAKER, add_feed_door, add_feed_port, listen_for_page, listen_for_peers,
 };
-use crate::round_clock::RoundClock;
-use crate::sessions::{count_all, list_sessions};
+use crate::onlookers::{note_feed, note_page};
+use crate::round_clock::{RoundClock, sooner};
 use crate::sizes::{EVENTS_A_ROUND, ROUNDS_BEFORE_A_SWEEP, SWEEP_SECONDS};
-use connection_calls::{ACCEPTS_A_TURN, Caller};
 use feed_connections::Feeds;
 use journal::{Disk, DiskFault};
 use mio::event::Event;
-use mio::net::{TcpListener, TcpStream, UnixStream};
-use mio::{Events, Interest, Poll, Token, Waker};
+use mio::net::TcpListener;
+use mio::{Events, Poll, Token, Waker};
 use page_connections::Pages;
 use peer_connections::{Connections, PeerStream};
+use site_base::NoMemory;
 use site_metrics::StoreTimes;
 use stamps::StampClock;
 use station::PEERS;
 use std::alloc::Global;
-use std::io;
 use std::net::Net;
 use std::random::RandomSource;
 use std::sync::Wait;
@@ -46,39 +42,41 @@ const FIRST_FEED: usize = PEERS + 1_024;
 /// and what waits for their connections.
 #[derive(Drop)]
 pub struct StationServer {
-    alloc: Global,
-    poll: Poll,
-    events: Events,
-    listener: Option<TcpListener>,
-    port: Option<u16>,
-    doors: Doors,
-    pages: Option<Pages>,
-    page_port: Option<u16>,
-    feeds: Option<Feeds>,
-    feed_port: Option<u16>,
+    pub(crate) alloc: Global,
+    pub(crate) poll: Poll,
+    pub(crate) events: Events,
+    pub(crate) listener: Option<TcpListener>,
+    pub(crate) port: Option<u16>,
+    pub(crate) doors: Doors,
+    pub(crate) pages: Option<Pages>,
+    pub(crate) page_port: Option<u16>,
+    /// The name of the site that the page shows, if it has one.
+    pub(crate) page_name: Option<String>,
+    pub(crate) feeds: Option<Feeds>,
+    pub(crate) feed_port: Option<u16>,
     /// Connections may wait over TCP to be accepted.
-    has_callers: bool,
+    pub(crate) has_callers: bool,
     /// Accepting failed: it is tried again at the next sweep.
-    is_refused: bool,
+    pub(crate) is_refused: bool,
     /// A connection was accepted since others were heard: it is heard before a peer leaves for
     /// another one.
-    has_accepted: bool,
+    pub(crate) has_accepted: bool,
     /// Others may wait behind those that were accepted: the next round reports them.
-    may_have_more: bool,
+    pub(crate) may_have_more: bool,
     /// It was told that accepting failed, and since then not all that waited were accepted.
-    has_told: bool,
+    pub(crate) has_told: bool,
     /// The day's end has come.
-    has_ended: bool,
-    swept_at: Instant,
+    pub(crate) has_ended: bool,
+    pub(crate) swept_at: Instant,
     /// How long rows took to be stored.
-    stores: StoreTimes,
-    rounds: RoundClock,
-    clock: StampClock,
+    pub(crate) stores: StoreTimes,
+    pub(crate) rounds: RoundClock,
+    pub(crate) clock: StampClock,
 }
 
 impl StationServer {
     /// Listens at these doors, and on this port of 127.0.0.1, if there is one, on a free one where
-    /// it is 0. `NoConnection` where that can't be.
+    /// it is 0. `Deaf` where that port can't be.
     pub fn bind<N: Net, C: Clock>(
         net: &N,
         clock: &C,
@@ -90,35 +88,31 @@ impl StationServer {
             Ok(events) => events,
             Err(_) => return Err(ServerFault::NoMemory),
         };
-        match listen(net, clock, alloc, events, port, doors) {
-            Ok(server) => Ok(server),
-            Err(_) => Err(ServerFault::NoConnection),
-        }
+        listen(net, clock, alloc, events, port, doors)
     }
 
     /// Listens for those who look at the page, too: on this port of 127.0.0.1, on a free one where
-    /// it is 0. `NoConnection` where that can't be.
+    /// it is 0. The page shows this name of the site, if it has one. `Deaf` where that can't be.
     pub fn bind_page<N: Net, R: RandomSource>(
         &mut self,
         net: &N,
         rt: &R,
         port: u16,
+        name: Option<&str>,
     ) -> Result<(), ServerFault> {
-        match listen_for_page(net, rt, &self.poll, port) {
-            Ok((listener, port, keys)) => {
-                let pages = Pages::new(self.alloc, keys, listener, PEERS)?;
-                if let Some(earlier) = self.pages.replace(pages) {
-                    earlier.close();
-                }
-                self.page_port = Some(port);
-                Ok(())
-            }
-            Err(_) => Err(ServerFault::NoConnection),
+        self.page_name = copy_name(self.alloc, name)?;
+        let (listener, port, keys) = listen_for_page(net, rt, &self.poll, port)?;
+        let pages = Pages::new(self.alloc, keys, listener, PEERS)?;
+        if let Some(earlier) = self.pages.replace(pages) {
+            earlier.close();
         }
+        self.page_port = Some(port);
+        Ok(())
     }
 
-    /// Listens for peers of the feed, too: on this port of 127.0.0.1, if there is one, on a free one
-    /// where it is 0, and at the feed's door, if there is one. `NoConnection` where that can't be.
+    /// Listens for peers of the feed, too: on this port of 127.0.0.1, if there is one, on a free
+    /// one where it is 0, and at the feed's door, if there is one. `Deaf` where that port can't be,
+    /// `NoConnection` where the door can't.
     pub fn bind_feed<N: Net>(&mut self, net: &N, port: Option<u16>) -> Result<(), ServerFault> {
         let mut feeds = Feeds::new(self.alloc, FIRST_FEED, self.swept_at)?;
         let port = add_feed_port(net, &self.poll, port, &mut feeds)?;
@@ -268,89 +262,15 @@ impl StationServer {
         Ok(())
     }
 
-    /// The connections of the page that are ready have their turn. Each row is stored: so it tells
-    /// of no other.
-    fn serve_page<R: Clock, D: Disk>(
-        &mut self,
-        rt: &R,
-        connections: &mut Connections<D, PeerStream>,
-    )
-        requires { is_all_stored connections.old.stored ≡ true }
-        ensures station { connections.new.stored.station ≡ connections.old.stored.station }
-        ensures journal { connections.new.stored.journal ≡ connections.old.stored.journal }
-    {
-        let Some(pages) = &mut self.pages else {
-            return;
-        };
-        let registry = self.poll.registry();
-        if pages.accept_waiting(registry, self.rounds.waited()) {
-            let sessions = list_sessions(self.alloc, connections, self.rounds.waited());
-            let unpaid = connections.read_unpaid();
-            match (unpaid, sessions, connections.stored_book()) {
-                (Ok(()), Ok(sessions), Some(book)) => pages.answer_due(
-                    registry,
-                    book,
-                    connections.unpaid(),
-                    count_all(connections, &self.feeds, &self.rounds, self.stores),
-                    &sessions,
-                    self.clock.read(self.alloc, rt),
-                    connections.open_since(),
-                    connections.last_seal(),
-                    connections.tally(),
-                    self.rounds.waited(),
-                ),
-                _ => pages.close_due(),
-            }
-        }
-        pages.close_late(self.rounds.waited());
-    }
-
-    /// The connections of the feed that are ready, or wait for rows that are new, have their turn.
-    /// Each row is stored: they are sent those that were read then, and no others. Where memory was
-    /// wanting for these there is no feed any more, which is said.
-    fn serve_feed<R: Eprint, D: Disk>(&mut self, rt: &R, connections: &Connections<D, PeerStream>)
-        requires { is_all_stored connections.now.stored ≡ true }
-        ensures { IfSome self.old.feeds (λ old. IfSome self.new.feeds
-            (λ new. IfSome connections.now.changes.fed
-            (λ fed. AreServed fed.rows old.places.items new.places.items))) }
-    {
-        let Some(feeds) = &mut self.feeds else {
-            return;
-        };
-        let now = self.rounds.waited();
-        match connections.fed_rows() {
-            Some(fed) => feeds.serve(self.poll.registry(), fed.rows(), fed.starts(), now),
-            None => {
-                self.feeds = None;
-                let _ = eprintln!(rt; "the feed has ended: out of memory");
-            }
-        }
-    }
-
-    /// No further round comes: the feed's peers are fed what is left.
-    fn note_last_round(&mut self) {
-        if let Some(feeds) = &mut self.feeds {
-            feeds.note_last_round();
-        }
-    }
-
-    /// How long new rows wait still until the feed's peers are fed them, if there are some.
-    fn feed_left<D: Disk>(&self, connections: &Connections<D, PeerStream>) -> Option<Duration> {
-        let feeds = self.feeds.as_ref()?;
-        let fed = connections.fed_rows()?;
-        feeds.time_left(fed.rows(), self.rounds.waited())
-    }
-
     /// How long it waits for the next round: as long as it takes, until the next sweep, or until
-    /// sessions that were held back are read on, or the feed's peers are fed.
+    /// sessions that were held back are read on, or those who look on have a turn.
     fn poll_timeout<D: Disk>(
         &self,
         connections: &Connections<D, PeerStream>,
         idle: Option<u64>,
     ) -> Option<Duration> {
         let hold_left = connections.hold_left(self.rounds.waited());
-        let feed_left = self.feed_left(connections);
-        if let Some(left) = sooner(hold_left, feed_left) {
+        if let Some(left) = sooner(hold_left, self.onlookers_left(connections)) {
             return Some(left);
         }
         let is_page_busy = self.pages.as_ref().is_some_and(|pages| pages.is_busy());
@@ -397,213 +317,6 @@ impl StationServer {
             }
         }
         Ok(())
-    }
-
-    /// Accepts the connections that wait, at the doors and over TCP, unless accepting has failed.
-    #[tactic(auto, using(crate::proofs::Rounds::moved))]
-    fn accept_waiting<R: Eprint, D: Disk>(
-        &mut self,
-        rt: &R,
-        connections: &mut Connections<D, PeerStream>,
-    )
-        ensures { Reaches connections.old.stored connections.new.stored }
-    {
-        if self.is_refused {
-            return;
-        }
-        // Doors first: where descriptors are few, the port takes each one that is free.
-        self.accept_at_doors(rt, connections);
-        self.accept_on_port(rt, connections);
-        if !self.may_have_more && !self.has_callers && !self.doors.have_callers() {
-            self.has_told = false;
-        }
-    }
-
-    /// Accepts the connections that wait over TCP, if some do.
-    #[tactic(auto, using(crate::proofs::Rounds::moved))]
-    fn accept_on_port<R: Eprint, D: Disk>(
-        &mut self,
-        rt: &R,
-        connections: &mut Connections<D, PeerStream>,
-    )
-        ensures { ReachesBy (IsWelcome None) connections.old.stored connections.new.stored }
-    {
-        if self.has_callers {
-            self.accept_all(rt, connections);
-        }
-    }
-
-    /// Accepts the connections that wait at the doors, as `accept_all` does.
-    #[tactic(auto, using(crate::proofs::Rounds::moved))]
-    fn accept_at_doors<R: Eprint, D: Disk>(
-        &mut self,
-        rt: &R,
-        connections: &mut Connections<D, PeerStream>,
-    )
-        ensures { Reaches connections.old.stored connections.new.stored }
-    {
-        for place in 0..self.doors.len() {
-            if self.doors.has_callers(place) {
-                self.accept_at_door(rt, connections, place);
-            }
-        }
-    }
-
-    /// Accepts the connections that wait at the door of this place.
-    #[tactic(auto, using(crate::proofs::Rounds::moved))]
-    fn accept_at_door<R: Eprint, D: Disk>(
-        &mut self,
-        rt: &R,
-        connections: &mut Connections<D, PeerStream>,
-        place: usize,
-    )
-        ensures { ReachesBy (IsWelcome (Some place)) connections.old.stored connections.new.stored }
-    {
-        for _ in 0..ACCEPTS_A_TURN {
-            match self.welcome_next_at(rt, connections, place) {
-                Accepting::GoesOn => {}
-                Accepting::IsOver => return,
-                Accepting::Later => break,
-            }
-        }
-        self.may_have_more = true;
-        self.doors.watch_again(&self.poll, place);
-    }
-
-    /// Accepts one connection that waits at the door of this place, and its peer gets a place.
-    #[tactic(auto, using(crate::proofs::Rounds::moved))]
-    fn welcome_next_at<R: Eprint, D: Disk>(
-        &mut self,
-        rt: &R,
-        connections: &mut Connections<D, PeerStream>,
-        place: usize,
-    ) -> Accepting
-        ensures { ReachesBy (IsWelcome (Some place)) connections.old.stored connections.new.stored }
-    {
-        match self.accept_one_at(connections, place) {
-            Caller::Came(stream) => {
-                self.has_accepted = true;
-                let registry = self.poll.registry();
-                let stream = PeerStream::Unix(stream);
-                connections.welcome_at(registry, rt, place, stream, self.rounds.waited());
-                Accepting::GoesOn
-            }
-            Caller::Gone => Accepting::GoesOn,
-            Caller::None => Accepting::IsOver,
-            Caller::Failed(error) => self.note_failed(rt, &error),
-        }
-    }
-
-    /// Accepts one connection that waits at the door of this place. Where that fails, a peer over
-    /// TCP leaves that waits without a whole message, and it is tried once more; but not in a round
-    /// in which one came: that one is heard first, and without a descriptor the system doesn't say
-    /// whether another one waits.
-    #[tactic(auto, using(crate::proofs::Rounds::moved))]
-    fn accept_one_at<D: Disk>(
-        &mut self,
-        connections: &mut Connections<D, PeerStream>,
-        place: usize,
-    ) -> Caller<UnixStream>
-        ensures { ReachesBy (IsDismissal None) connections.old.stored connections.new.stored }
-    {
-        match self.doors.accept(place) {
-            Caller::Failed(error) => {
-                if !self.has_accepted && connections.make_way() {
-                    self.doors.accept(place)
-                } else {
-                    Caller::Failed(error)
-                }
-            }
-            caller => caller,
-        }
-    }
-
-    /// Accepts one connection that waits over TCP, as `accept_one_at` does.
-    #[tactic(auto, using(crate::proofs::Rounds::moved))]
-    fn accept_one<D: Disk>(
-        &mut self,
-        connections: &mut Connections<D, PeerStream>,
-    ) -> Caller<TcpStream>
-        ensures { ReachesBy (IsDismissal None) connections.old.stored connections.new.stored }
-    {
-        match accept_at(&self.listener) {
-            Caller::Failed(error) => {
-                if !self.has_accepted && connections.make_way() {
-                    accept_at(&self.listener)
-                } else {
-                    Caller::Failed(error)
-                }
-            }
-            caller => caller,
-        }
-    }
-
-    /// Accepts the connections that wait over TCP. Where that fails it is told, once until all that
-    /// wait are accepted, and tried again.
-    #[tactic(auto, using(crate::proofs::Rounds::moved))]
-    fn accept_all<R: Eprint, D: Disk>(
-        &mut self,
-        rt: &R,
-        connections: &mut Connections<D, PeerStream>,
-    )
-        ensures { ReachesBy (IsWelcome None) connections.old.stored connections.new.stored }
-    {
-        for _ in 0..ACCEPTS_A_TURN {
-            match self.welcome_next(rt, connections) {
-                Accepting::GoesOn => {}
-                Accepting::IsOver => return,
-                Accepting::Later => break,
-            }
-        }
-        self.may_have_more = true;
-        self.has_callers = false;
-        if let Some(listener) = &mut self.listener {
-            let registry = self.poll.registry();
-            let _ = registry.reregister(listener, LISTENER, Interest::READABLE);
-        }
-    }
-
-    /// Accepts one connection that waits over TCP, and its peer gets a place.
-    #[tactic(auto, using(crate::proofs::Rounds::moved))]
-    fn welcome_next<R: Eprint, D: Disk>(
-        &mut self,
-        rt: &R,
-        connections: &mut Connections<D, PeerStream>,
-    ) -> Accepting
-        ensures { ReachesBy (IsWelcome None) connections.old.stored connections.new.stored }
-    {
-        match self.accept_one(connections) {
-            Caller::Came(stream) => {
-                self.has_accepted = true;
-                let stream = PeerStream::Tcp(stream);
-                connections.welcome(self.poll.registry(), rt, stream, self.rounds.waited());
-                Accepting::GoesOn
-            }
-            Caller::Gone => Accepting::GoesOn,
-            Caller::None => {
-                self.has_callers = false;
-                Accepting::IsOver
-            }
-            Caller::Failed(error) => self.note_failed(rt, &error),
-        }
-    }
-
-    /// Accepting failed so: later in this round, where a connection came, which is heard first.
-    fn note_failed<R: Eprint>(&mut self, rt: &R, error: &io::Error) -> Accepting {
-        if self.has_accepted {
-            return Accepting::Later;
-        }
-        self.tell_refused(rt, error);
-        Accepting::IsOver
-    }
-
-    /// Accepting failed so: it is told, where it wasn't yet.
-    fn tell_refused<R: Eprint>(&mut self, rt: &R, error: &io::Error) {
-        self.is_refused = true;
-        if !self.has_told {
-            self.has_told = true;
-            let _ = eprintln!(rt; "cannot accept: {error}; it is tried again each second");
-        }
     }
 
     /// Stores the round's rows and sends what is owed, and each second does what waits for time to
@@ -715,37 +428,11 @@ impl StationServer {
         self.send_noted(rt, connections)
     }
 
-    /// Accepts again, where that failed.
-    #[tactic(auto, using(crate::proofs::Rounds::moved))]
-    fn accept_again<R: Eprint, D: Disk>(
-        &mut self,
-        rt: &R,
-        connections: &mut Connections<D, PeerStream>,
-    )
-        ensures { Reaches connections.old.stored connections.new.stored }
-    {
-        if self.is_refused {
-            self.is_refused = false;
-            self.accept_waiting(rt, connections);
-        }
-    }
-
     /// Is it time to sweep?
     fn is_sweep_due(&self) -> bool {
         let passed = self.rounds.waited().duration_since(self.swept_at);
         passed.as_secs() >= SWEEP_SECONDS
     }
-}
-
-/// How accepting goes on.
-#[derive(Clone, Copy, Debug, PartialEq, Eq)]
-enum Accepting {
-    /// Others may wait.
-    GoesOn,
-    /// None waits, or it failed.
-    IsOver,
-    /// Others may wait, and are accepted once those that came were heard.
-    Later,
 }
 
 /// A connection that is ready has its turn, and is due then. Where the station's book can't be
@@ -775,26 +462,6 @@ fn take_turn<D: Disk>(
     Ok(())
 }
 
-/// Who looks at the page is ready, or waits to be accepted.
-fn note_page(pages: &mut Option<Pages>, token: Token) {
-    match (pages, token) {
-        (None, _) => {}
-        (Some(pages), PAGE_LISTENER) => pages.note_callers(),
-        (Some(pages), Token(key)) => pages.make_due(key),
-    }
-}
-
-/// A peer of the feed is ready, waits to be accepted, or takes no more.
-fn note_feed(feeds: &mut Option<Feeds>, event: &Event) {
-    match (feeds, event.token()) {
-        (None, _) => {}
-        (Some(feeds), FEED_LISTENER) => feeds.note_callers(),
-        (Some(feeds), FEED_DOOR) => feeds.note_callers(),
-        (Some(feeds), Token(key)) if event.is_write_closed() => feeds.leave(key),
-        (Some(feeds), Token(key)) => feeds.make_due(key),
-    }
-}
-
 /// A server whose listeners are watched.
 fn listen<N: Net, C: Clock>(
     net: &N,
@@ -803,7 +470,7 @@ fn listen<N: Net, C: Clock>(
     events: Events,
     port: Option<u16>,
     doors: Doors,
-) -> io::Result<StationServer> {
+) -> Result<StationServer, ServerFault> {
     let mut doors = doors;
     let poll = Poll::new(net)?;
     let (listener, port) = listen_for_peers(net, &poll, port)?;
@@ -818,6 +485,7 @@ fn listen<N: Net, C: Clock>(
         doors,
         pages: None,
         page_port: None,
+        page_name: None,
         feeds: None,
         feed_port: None,
         has_callers: false,
@@ -833,12 +501,11 @@ fn listen<N: Net, C: Clock>(
     })
 }
 
-/// The lesser of two times, where there are both.
-fn sooner(one: Option<Duration>, other: Option<Duration>) -> Option<Duration> {
-    match (one, other) {
-        (Some(one), Some(other)) if other < one => Some(other),
-        (None, other) => other,
-        (one, _) => one,
+/// A name of its own, if there is one.
+fn copy_name(alloc: Global, name: Option<&str>) -> Result<Option<String>, NoMemory> {
+    match name {
+        Some(name) => Ok(Some(String::from_str(alloc, name)?)),
+        None => Ok(None),
     }
 }
 

@@ -3,7 +3,7 @@ use Rattle.std.specs.Prelude.{ℕ, ◌+◌, ◌^◌, ◌<◌, Bool, false, ◌&&
 use Rattle.transaction_buffer.specs.declared.standing.Standing.{Standing}
 use Rattle.transaction_buffer.specs.declared.standing.Standing.TheVariants.{ClearedBy}
 use Rattle.transaction_buffer.specs.Sales.{Sale, Sales}
-use Rattle.transaction_buffer.specs.Sums.{sum_of, volume_in}
+use Rattle.transaction_buffer.specs.Sums.{product_cents, sum_of, volume_in}
 
 -- a sale that stands so is cleared by till t
 abbrev pub is_cleared_by : ℕ → Standing → Bool
@@ -31,6 +31,11 @@ cents_in h t sales = sum_of (λ x. if is_clear_of h t x then x.cents else 0) sal
 abbrev pub cleared_in : ℕ → ℕ → Sales → ℕ
 cleared_in h q sales = sum_of (λ x. if is_cleared_in h x.standing then volume_in q x else 0) sales
 
+-- the cents of what was cleared of product q in shift h
+abbrev pub product_cents_in : ℕ → ℕ → Sales → ℕ
+product_cents_in h q sales =
+    sum_of (λ x. if is_cleared_in h x.standing then product_cents q x else 0) sales
+
 -- how many sales till t cleared in all shifts
 abbrev pub clears_by : ℕ → Sales → ℕ
 clears_by t sales = sum_of (λ x. if is_cleared_by t x.standing then 1 else 0) sales
@@ -45,5 +50,6 @@ pub record FitsOneClear (h t : ℕ) (x : Sale) (sales : Sales) : Type 0 where
   pub clears : clears_in h t sales + 1 < 2 ^ 64
   pub cents : cents_in h t sales + x.cents < 2 ^ 64
   pub cleared : cleared_in h x.product sales + x.volume < 2 ^ 64
+  pub product_cents : product_cents_in h x.product sales + x.cents < 2 ^ 64
   pub all_clears : clears_by t sales + 1 < 2 ^ 64
   pub all_cents : cents_by t sales + x.cents < 2 ^ 64

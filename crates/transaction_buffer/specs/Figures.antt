@@ -3,10 +3,10 @@ use Rattle.std.specs.Prelude.{ℕ, if◌then◌else◌}
 use Rattle.transaction_buffer.specs.declared.figure.Figure.{Figure}
 use Rattle.transaction_buffer.specs.declared.figure.Figure.TheVariants.{Volume, Clears, Cents}
 use Rattle.transaction_buffer.specs.declared.figure.Figure.TheVariants.{ClearsIn, CentsIn}
-use Rattle.transaction_buffer.specs.declared.figure.Figure.TheVariants.{ClearedIn}
+use Rattle.transaction_buffer.specs.declared.figure.Figure.TheVariants.{ClearedIn, ProductCentsIn}
 use Rattle.transaction_buffer.specs.Clears.{is_clear_of, is_cleared_by, is_cleared_in}
 use Rattle.transaction_buffer.specs.Sales.{Sale, Sales}
-use Rattle.transaction_buffer.specs.Sums.{sum_of, volume_in, volume_with}
+use Rattle.transaction_buffer.specs.Sums.{product_cents, sum_of, volume_in, volume_with}
 
 -- what a sale adds to the figure
 abbrev pub figure_in : Figure → Sale → ℕ
@@ -16,6 +16,7 @@ figure_in (Cents t) = λ x. if is_cleared_by t x.standing then x.cents else 0
 figure_in (ClearsIn h t) = λ x. if is_clear_of h t x then 1 else 0
 figure_in (CentsIn h t) = λ x. if is_clear_of h t x then x.cents else 0
 figure_in (ClearedIn h q) = λ x. if is_cleared_in h x.standing then volume_in q x else 0
+figure_in (ProductCentsIn h q) = λ x. if is_cleared_in h x.standing then product_cents q x else 0
 
 -- the figure over all sales
 abbrev pub figure_of : Figure → Sales → ℕ

@@ -34,6 +34,10 @@ has_status status standing = false
 abbrev pub volume_in : ℕ → Sale → ℕ
 volume_in q x = if x.product == q then x.volume else 0
 
+-- the cents of a sale, if it is of product q
+abbrev pub product_cents : ℕ → Sale → ℕ
+product_cents q x = if x.product == q then x.cents else 0
+
 -- the millilitres of product q in a sale, if it has this status
 abbrev pub volume_with : ℕ → Status → Sale → ℕ
 volume_with q status x = if x.product == q && has_status status x.standing then x.volume else 0

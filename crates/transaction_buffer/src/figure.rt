@@ -21,6 +21,8 @@ pub enum Figure {
     CentsIn(ShiftNo, TillNo),
     /// The millilitres that were cleared in a shift of a product.
     ClearedIn(ShiftNo, ProductNo),
+    /// The cents of what was cleared in a shift of a product.
+    ProductCentsIn(ShiftNo, ProductNo),
 }
 
 impl Figure {
@@ -37,6 +39,7 @@ impl Figure {
                 sale.cents.get()
             }
             Figure::ClearedIn(h, q) if sale.is_cleared_in(*h) => sale.volume_in(*q),
+            Figure::ProductCentsIn(h, q) if sale.is_cleared_in(*h) => sale.product_cents(*q),
             _ => 0,
         }
     }

@@ -6,7 +6,8 @@ ghost use Rattle.transaction_buffer.specs.Sales.{is_unpaid, new_sale, status_of,
 ghost use Rattle.transaction_buffer.specs.TransactionTable.{answer_in, unlock_all_of, line_for};
 ghost use Rattle.transaction_buffer.specs.TransactionTable.{locker, refusal_in, sale_after_request};
 ghost use Rattle.transaction_buffer.specs.Clears.{is_cleared_by, is_cleared_in};
-ghost use Rattle.transaction_buffer.specs.Sums.{has_status, volume_in, volume_locked_by};
+ghost use Rattle.transaction_buffer.specs.Sums.{has_status, product_cents, volume_in};
+ghost use Rattle.transaction_buffer.specs.Sums.{volume_locked_by};
 
 use crate::request::Request;
 use crate::standing::Standing;
@@ -131,6 +132,17 @@ impl Sale {
     {
         if self.product.get() == q.get() {
             self.volume.get()
+        } else {
+            0
+        }
+    }
+
+    /// Its cents, if it is of this product; else 0.
+    pub fn product_cents(&self, q: ProductNo) -> u64
+        ensures { result ≡ product_cents q self.now }
+    {
+        if self.product.get() == q.get() {
+            self.cents.get()
         } else {
             0
         }

@@ -9,7 +9,7 @@ use Rattle.transaction_buffer.specs.declared.standing.Standing.{Standing}
 use Rattle.transaction_buffer.specs.declared.standing.Standing.TheVariants.{Payable, LockedBy}
 use Rattle.transaction_buffer.specs.declared.standing.Standing.TheVariants.{ClearedBy}
 use Rattle.transaction_buffer.specs.Sales.{Key, Sale, Sales, is_unpaid, no_sales, sale_of, with_new}
-use Rattle.transaction_buffer.specs.Sums.{sum_of, volume_in}
+use Rattle.transaction_buffer.specs.Sums.{product_cents, sum_of, volume_in}
 use Rattle.transaction_buffer.specs.TransactionTable.{Line, locked_by_it, locked_by_other, line}
 use Rattle.transaction_buffer.specs.TransactionTable.{line_for, line_of, seen_by, sale_after}
 use Rattle.transaction_buffer.specs.TransactionTable.{sale_after_request, refusal_in, after_line}
@@ -20,7 +20,7 @@ use Rattle.transaction_buffer.proofs.Rules.{cleared_by_its_locker}
 use Rattle.transaction_buffer.proofs.Summing.{alike_sum, changed_sum, sold_sum}
 use Rattle.written_site.specs.FigureSteps.{HasClear, HasSameClears}
 use Rattle.written_site.specs.ShiftFigures.{is_cleared_by, is_cleared_in, clears_in, cents_in}
-use Rattle.written_site.specs.ShiftFigures.{cleared_in, clears_by, cents_by}
+use Rattle.written_site.specs.ShiftFigures.{cleared_in, product_cents_in, clears_by, cents_by}
 use Rattle.written_site.proofs.AskedSums.{asked_sum, asked_leaves}
 use Rattle.written_site.proofs.SoundTables.{itself, told_once, turned}
 
@@ -152,7 +152,7 @@ let_go_stays test value t sales of_cleared =
     ∙ alike_sum (λ x. figure_where test value (unlock_all_of t x)) (figure_where test value)
     (let_go_alike test value t of_cleared) sales
 
--- ---- the five figures
+-- ---- the six figures
 
 abbrev by_till_in : ℕ → ℕ → Standing → Bool
 by_till_in h t y = is_cleared_in h y && is_cleared_by t y
@@ -175,6 +175,8 @@ same_clears old new stays = record {
   cents = λ g u. stays (by_till_in g u) cents_of
       (record { free = refl; locked = λ t. refl; fixed = λ x y. refl });
   cleared = λ g q. stays (is_cleared_in g) (volume_in q)
+      (record { free = refl; locked = λ t. refl; fixed = λ x y. refl });
+  product_cents = λ g q. stays (is_cleared_in g) (product_cents q)
       (record { free = refl; locked = λ t. refl; fixed = λ x y. refl });
   all_clears = λ u. stays (is_cleared_by u) one
       (record { free = refl; locked = λ t. refl; fixed = λ x y. refl });
@@ -234,6 +236,9 @@ none_in h t = (nothing_cleared (by_till_in h t) one, nothing_cleared (by_till_in
 pub none_cleared_in : (h q : ℕ) → cleared_in h q no_sales ≡ 0
 none_cleared_in h q = nothing_cleared (is_cleared_in h) (volume_in q)
 
+pub no_product_cents_in : (h q : ℕ) → product_cents_in h q no_sales ≡ 0
+no_product_cents_in h q = nothing_cleared (is_cleared_in h) (product_cents q)
+
 pub none_by : (t : ℕ) → (clears_by t no_sales ≡ 0) × (cents_by t no_sales ≡ 0)
 none_by t = (nothing_cleared (is_cleared_by t) one, nothing_cleared (is_cleared_by t) cents_of)
 
@@ -262,6 +267,10 @@ counts_locked t h k x sales there locked = record {
       (record { free = refl; locked = λ v. refl; fixed = λ y z. refl }) there locked
       ∙ ap (λ (n : ℕ). cleared_in g q sales + n)
       (both_tests (h == g) (x.product == q) x.volume ∙ either_way h g x.product q x.volume);
+  product_cents = λ g q. counts_once (is_cleared_in g) (product_cents q) t h k x sales
+      (record { free = refl; locked = λ v. refl; fixed = λ y z. refl }) there locked
+      ∙ ap (λ (n : ℕ). product_cents_in g q sales + n)
+      (both_tests (h == g) (x.product == q) x.cents ∙ either_way h g x.product q x.cents);
   all_clears = λ u. counts_once (is_cleared_by u) one t h k x sales
       (record { free = refl; locked = λ v. refl; fixed = λ y z. refl }) there locked
       ∙ ap (λ (b : Bool). clears_by u sales + cond b 1 0) (turned t u);

@@ -18,7 +18,7 @@ use Rattle.transaction_buffer.specs.declared.standing.Standing.TheVariants.{Paya
 use Rattle.transaction_buffer.specs.declared.standing.Standing.TheVariants.{ClearedBy}
 use Rattle.transaction_buffer.specs.Clears.{FitsOneClear}
 use Rattle.transaction_buffer.specs.Sales.{Key, Sale, Sales, sale_of, is_unpaid, with_sale}
-use Rattle.transaction_buffer.specs.Sums.{sum_of, volume_in}
+use Rattle.transaction_buffer.specs.Sums.{product_cents, sum_of, volume_in}
 use Rattle.transaction_buffer.proofs.Summing.{added_sum, alike_sum, replaced_sum}
 use Rattle.written_site.specs.FigureSteps.{DoFiguresFit, AreFiguresInRange}
 use Rattle.written_site.specs.ShiftFigures.{shift_drawn, is_cleared_by, is_cleared_in, tills}
@@ -108,6 +108,14 @@ both_true a b p q = rw (p, q) refl
 volume_of_own : (x : Sale) → volume_in x.product x ≡ x.volume
 volume_of_own x = ap (λ (b : Bool). cond b x.volume 0) (itself x.product)
 
+cents_of_own : (x : Sale) → product_cents x.product x ≡ x.cents
+cents_of_own x = ap (λ (b : Bool). cond b x.cents 0) (itself x.product)
+
+-- the cents of a product's sales are within those of all sales
+product_cents_within : (q : ℕ) (sales : Sales) → sum_of (product_cents q) sales ≤ sum_of cents sales
+product_cents_within q sales =
+    bounded_sum (product_cents q) cents sales (λ k x is. part_of (x.product == q) x.cents)
+
 pub clear_fits : (s : SiteState) (t h : ℕ) (k : Key) (x : Sale) → Sound s
     → sale_of k s.sales ≡ Some x → is_unpaid x.standing ≡ true → FitsOneClear h t x s.sales
 clear_fits s t h k x sound there unpaid =
@@ -126,6 +134,10 @@ clear_fits s t h k x sound there unpaid =
     let cleared = one_more_within (is_cleared_in h) (volume_in x.product) (ClearedBy t h) k x
     s.sales
     (record { free = refl; locked = λ u. refl; fixed = λ y z. refl }) (itself h) there unpaid in
+    let of_its_product = one_more_within (is_cleared_in h) (product_cents x.product) (ClearedBy t h)
+    k x s.sales
+    (record { free = refl; locked = λ u. refl; fixed = λ y z. refl }) (itself h) there unpaid in
+    let cents_of_product = product_cents_within x.product s.sales in
     let clears_of_till = one_more_within (is_cleared_by t) one (ClearedBy t h) k x s.sales
     (record { free = refl; locked = λ u. refl; fixed = λ y z. refl }) (itself t) there unpaid in
     let cents_of_till = one_more_within (is_cleared_by t) cents (ClearedBy t h) k x s.sales
@@ -134,6 +146,8 @@ clear_fits s t h k x sound there unpaid =
       clears = omega (arith, clears, count, cents_fit);
       cents = omega (arith, its_cents, all_cents, cents_fit);
       cleared = omega (arith, cleared, of_product, volumes, volume_of_own x, cents_fit);
+      product_cents =
+          omega (arith, of_its_product, cents_of_product, all_cents, cents_of_own x, cents_fit);
       all_clears = omega (arith, clears_of_till, count, cents_fit);
       all_cents = omega (arith, cents_of_till, all_cents, cents_fit);
     }
@@ -294,6 +308,13 @@ figures_in_range s h sound =
         cents_fit,
         product_within q s.sales,
         figure_within (is_cleared_in h) (volume_in q) s.sales,
+      );
+      product_cents = λ q. omega (
+        arith,
+        all_cents,
+        cents_fit,
+        product_cents_within q s.sales,
+        figure_within (is_cleared_in h) (product_cents q) s.sales,
       );
       drawn = λ q. draw_within s h q sound;
       takings = omega (

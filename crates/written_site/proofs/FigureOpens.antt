@@ -8,7 +8,7 @@ use Rattle.transaction_buffer.specs.declared.standing.Standing.{Standing}
 use Rattle.transaction_buffer.specs.declared.standing.Standing.TheVariants.{Payable, LockedBy}
 use Rattle.transaction_buffer.specs.declared.standing.Standing.TheVariants.{ClearedBy}
 use Rattle.transaction_buffer.specs.Sales.{Key, Sale, sale_of}
-use Rattle.transaction_buffer.specs.Sums.{volume_in}
+use Rattle.transaction_buffer.specs.Sums.{product_cents, volume_in}
 use Rattle.written_site.specs.FigureSteps.{IsEmptyShift}
 use Rattle.written_site.specs.ShiftFigures.{is_cleared_by, is_cleared_in, is_clear_of, shift_draws}
 use Rattle.written_site.specs.SiteState.{SiteState, nothing_drawn, open_shift}
@@ -43,6 +43,8 @@ opens_empty s h sound later = record {
       ap (λ (b : Bool). cond (b && is_cleared_by t x.standing) x.cents 0) (none k x is));
   cleared = λ q. empty_sum (λ x. cond (is_cleared_in h x.standing) (volume_in q x) 0) s.sales
       (λ k x is. ap (λ (b : Bool). cond b (volume_in q x) 0) (none k x is));
+  product_cents = λ q. empty_sum (λ x. cond (is_cleared_in h x.standing) (product_cents q x) 0)
+      s.sales (λ k x is. ap (λ (b : Bool). cond b (product_cents q x) 0) (none k x is));
   draws = no_draws s h later;
 }
   where

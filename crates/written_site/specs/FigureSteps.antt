@@ -12,7 +12,8 @@ use Rattle.written_site.specs.SiteState.{SiteState, key_named, nothing_drawn, op
 use Rattle.written_site.specs.SiteChecks.{at_sale}
 use Rattle.written_site.specs.SiteStep.{accepted_site, sales_after}
 use Rattle.written_site.specs.ShiftFigures.{clears_in, cents_in, cleared_in, clears_by, cents_by}
-use Rattle.written_site.specs.ShiftFigures.{takings_in, shift_draws, shift_drawn, tills}
+use Rattle.written_site.specs.ShiftFigures.{product_cents_in, takings_in, shift_draws, shift_drawn}
+use Rattle.written_site.specs.ShiftFigures.{tills}
 use Rattle.written_site.specs.Sound.{Sound}
 use Rattle.written_site.specs.SoundSteps.{IsTaken, product_at, drawn_at}
 
@@ -31,6 +32,9 @@ pub record HasClear (old new : Sales) (t h : ℕ) (x : Sale) : Type 0 where
   pub cleared : (g q : ℕ)
       → cleared_in g q new
       ≡ cleared_in g q old + (if g == h && q == x.product then x.volume else 0)
+  pub product_cents : (g q : ℕ)
+      → product_cents_in g q new
+      ≡ product_cents_in g q old + (if g == h && q == x.product then x.cents else 0)
   pub all_clears : (u : ℕ) → clears_by u new ≡ clears_by u old + (if u == t then 1 else 0)
   pub all_cents : (u : ℕ) → cents_by u new ≡ cents_by u old + (if u == t then x.cents else 0)
 
@@ -39,6 +43,7 @@ pub record HasSameClears (old new : Sales) : Type 0 where
   pub clears : (g u : ℕ) → clears_in g u new ≡ clears_in g u old
   pub cents : (g u : ℕ) → cents_in g u new ≡ cents_in g u old
   pub cleared : (g q : ℕ) → cleared_in g q new ≡ cleared_in g q old
+  pub product_cents : (g q : ℕ) → product_cents_in g q new ≡ product_cents_in g q old
   pub all_clears : (u : ℕ) → clears_by u new ≡ clears_by u old
   pub all_cents : (u : ℕ) → cents_by u new ≡ cents_by u old
 
@@ -47,6 +52,7 @@ pub record IsEmptyShift (s : SiteState) (h : ℕ) : Type 0 where
   pub clears : (t : ℕ) → clears_in h t s.sales ≡ 0
   pub cents : (t : ℕ) → cents_in h t s.sales ≡ 0
   pub cleared : (q : ℕ) → cleared_in h q s.sales ≡ 0
+  pub product_cents : (q : ℕ) → product_cents_in h q s.sales ≡ 0
   pub draws : shift_draws s h ≡ nothing_drawn
 
 -- Every figure of shift h fits in 64 bits: of each till, of each product, and the cents of all
@@ -55,6 +61,7 @@ pub record AreFiguresInRange (s : SiteState) (h : ℕ) : Type 0 where
   pub clears : (t : ℕ) → clears_in h t s.sales < 2 ^ 64
   pub cents : (t : ℕ) → cents_in h t s.sales < 2 ^ 64
   pub cleared : (q : ℕ) → cleared_in h q s.sales < 2 ^ 64
+  pub product_cents : (q : ℕ) → product_cents_in h q s.sales < 2 ^ 64
   pub drawn : (q : ℕ) → shift_drawn s h q < 2 ^ 64
   pub takings : takings_in h s.sales < 2 ^ 64
   pub all_clears : (t : ℕ) → clears_by t s.sales < 2 ^ 64

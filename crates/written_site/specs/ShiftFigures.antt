@@ -1,5 +1,5 @@
 -- The figures of a site, from its sales and draws alone: of each shift and of all together, what
--- each till cleared, and what of each product was cleared and drawn by tests.
+-- each till cleared, and what of each product was cleared, its cents, and what tests drew of it.
 use Rattle.std.specs.Prelude.{ℕ, List, map, sum_by, unwrap_or}
 use Rattle.std.specs.List.{range_with_len}
 use Rattle.site_base.specs.declared.limits.TheConstants.{TILLS}
@@ -13,6 +13,7 @@ pub use Rattle.transaction_buffer.specs.Clears.{
   clears_in,
   cents_in,
   cleared_in,
+  product_cents_in,
   clears_by,
   cents_by,
 }

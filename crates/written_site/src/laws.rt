@@ -94,9 +94,9 @@ pub fn finds_room()
 {}
 
 /// A clear counts once, in the open shift: for its till, with its sale's cents, and for its sale's
-/// product, with its millilitres. Every other event leaves what was cleared in each shift and in
-/// all. A draw counts for its product in the open shift, and nothing else changes what was drawn. A
-/// shift that isn't open yet is empty.
+/// product, with its millilitres and its cents. Every other event leaves what was cleared in each
+/// shift and in all. A draw counts for its product in the open shift, and nothing else changes what
+/// was drawn. A shift that isn't open yet is empty.
 pub fn figures_move()
     ensures { DoFiguresMove }
 {}

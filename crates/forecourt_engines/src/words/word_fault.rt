@@ -1,6 +1,7 @@
 //! A wrong word as it is told: quoted, with its place and what could stand there.
 
 use crate::number::split_at_octet;
+use crate::words::nearest::{nearest_name, parts_a_number};
 use crate::words::places::word_behind;
 use crate::words::splitting::count_words;
 use crate::words::wrong_word::{Wanted, WrongWord};
@@ -21,17 +22,36 @@ pub struct WordFault<'a> {
 
 impl<'a> fmt::Display for WordFault<'a> {
     /// `word 4 "2000": volume, money, or nothing`; where it isn't there `word 3 is missing: token`,
-    /// or before the comma that comes too early `word 3 is missing before the comma: ..`.
+    /// or before the comma that comes too early `word 3 is missing before the comma: ..`. For a
+    /// name that is nearly one it tells which: `word 2 "signon": the name of an event, perhaps
+    /// SignOn`; behind a number with a comma, that numbers have none.
     fn fmt<W: fmt::Write>(&self, f: &mut fmt::Formatter<W>) -> fmt::Result {
         let place = self.wrong.place;
         let wanted = self.wrong.wanted;
         if is_before_comma(self.line, &self.wrong) {
-            return write!(f, "word {place} is missing before the comma: {wanted}");
+            write!(f, "word {place} is missing before the comma: {wanted}")?;
+        } else if let Some(word) = word_behind(self.line, place.saturating_sub(1)) {
+            write!(f, "word {place} {}: ", Quoted { word })?;
+            write_wanted(f, word, wanted)?;
+        } else {
+            write!(f, "word {place} is missing: {wanted}")?;
         }
-        match word_behind(self.line, place.saturating_sub(1)) {
-            Some(word) => write!(f, "word {place} {}: {wanted}", Quoted { word }),
-            None => write!(f, "word {place} is missing: {wanted}"),
+        if parts_a_number(self.line) {
+            f.write_str(" (numbers have no commas)")?;
         }
+        Ok(())
+    }
+}
+
+/// Writes what could stand in place of a word: of a name, the one that is perhaps meant.
+fn write_wanted<W: fmt::Write>(
+    f: &mut fmt::Formatter<W>,
+    word: &[u8],
+    wanted: Wanted,
+) -> fmt::Result {
+    match (wanted, nearest_name(word)) {
+        (Wanted::EventName, Some(name)) => write!(f, "the name of an event, perhaps {name}"),
+        _ => write!(f, "{wanted}"),
     }
 }
 

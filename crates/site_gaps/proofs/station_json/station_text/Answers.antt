@@ -9,5 +9,5 @@ returns c =
     c.in_ok-to_string.ensures.text
     (ap has_float c.in_ok-station.ensures
     ∙ no_float_station c.args.book.now c.args.unpaid.now c.args.connections c.args.sessions.now
-    c.args.at c.args.opened (option_copied c.args.seal) (option_copied c.args.tally))
+    c.args.at c.args.opened (option_copied c.args.seal) (option_copied c.args.tally) (option_copied c.args.name))
     ∙ ap compact_text c.in_ok-station.ensures

@@ -7,6 +7,7 @@ loop-place-preserved c = record {
   all = c.look_at.ensures.seen ∙ c.loop-place.invariant.all;
   read = c.look_at.ensures.read ∙ c.loop-place.invariant.read;
   fed = c.look_at.ensures.fed ∙ c.loop-place.invariant.fed;
+  tally = c.look_at.ensures.tally ∙ c.loop-place.invariant.tally;
   had = λ had. c.look_at.ensures.had (c.loop-place.invariant.had had);
   noted = noted_up_to _ _ c.args.book.now _ _ c.look_at.ensures.had c.loop-place.invariant.noted
       c.look_at.ensures.noted;

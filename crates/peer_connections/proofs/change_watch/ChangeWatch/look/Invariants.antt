@@ -9,6 +9,7 @@ invariant-loop-place l = record {
   all : l.self.rows_seen ≡ length l.fn.book.rows;
   read : l.self.rows_fed ≡ l.fn.self.rows_fed;
   fed : l.self.fed ≡ l.fn.self.fed;
+  tally : l.self.tally ≡ l.fn.self.tally;
   had : l.fn.self.has_changes ≡ true → l.self.has_changes ≡ true;
   noted : (at : ℕ) (row : Row) → l.fn.self.rows_seen ≤ at → at < l.place
       → l.fn.book.forgotten ≤ at → slice_get l.fn.book.rows at ≡ Some row

@@ -30,3 +30,7 @@ loop-preserved g c =
     (reaches_then _ _ _ _ round
     (reaches_then _ _ _ _ (reaches_kept _ _ _ c.serve_page.ensures.station
     (goes_same _ _ c.serve_page.ensures.journal)) c.accept_waiting.ensures))
+
+pub returns-in_err-hear_round : goal.returns-in_err-hear_round
+returns-in_err-hear_round g c =
+    reaches_then _ _ _ _ c.loop.invariant (reaches_any _ _ _ c.hear_round.ensures.moves)

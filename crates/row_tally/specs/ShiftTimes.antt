@@ -1,14 +1,22 @@
 -- When the shifts of a history were opened and closed.
-use Rattle.std.specs.Prelude.{ℕ, ◌-◌, if◌then◌else◌, List, [], ◌∷◌, ◌++◌, Option, Some, None, codes}
-use Rattle.std.specs.Prelude.{slice_get, unwrap_or}
+use Rattle.std.specs.Prelude.{ℕ, ◌+◌, ◌-◌, if◌then◌else◌, List, [], ◌∷◌, ◌++◌, length, Option, Some}
+use Rattle.std.specs.Prelude.{None, slice_get, unwrap_or}
 use Rattle.site_base.specs.declared.row.Row.{Row}
 use Rattle.written_site.specs.RowWords.{closes_shift}
-use Rattle.shift_table.specs.declared.times.ShiftTimes.{ShiftTimes}
+use Rattle.row_tally.specs.declared.shift_times.ShiftTimes.{ShiftTimes}
 
 -- the times of the shifts that are closed, from shift 1 on, and of the open one once it has a row
 pub record TimesRead : Type 0 where
   pub closed : List ShiftTimes
   pub current : Option ShiftTimes
+
+-- no row is read yet
+abbrev pub no_times : TimesRead
+no_times = record { closed = []; current = None }
+
+-- the number of the open shift
+abbrev pub open_number : TimesRead → ℕ
+open_number read = length read.closed + 1
 
 -- a shift whose first row is at this time, if it is known
 abbrev pub opened_at : Option (List ℕ) → ShiftTimes
@@ -26,15 +34,13 @@ open_times time read = unwrap_or read.current (opened_at time)
 abbrev pub times_after : Row → Option (List ℕ) → TimesRead → TimesRead
 times_after r time read =
     if closes_shift r
-    then record { closed = read.closed ++ closed_at time (open_times time read) ∷ []; current = None }
+    then record {
+      closed = read.closed ++ closed_at time (open_times time read) ∷ [];
+      current = None;
+    }
     else record { closed = read.closed; current = Some (open_times time read) }
 
 -- the times of shift n: one that isn't closed is the open one
 abbrev pub times_of_shift : ℕ → TimesRead → ShiftTimes
 times_of_shift n read =
     unwrap_or (slice_get read.closed (n - 1)) (unwrap_or read.current (opened_at None))
-
--- a time; where it isn't known, `-`
-abbrev pub time_word : Option (List ℕ) → List ℕ
-time_word None = codes "-"
-time_word (Some time) = time

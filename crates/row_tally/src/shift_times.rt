@@ -1,10 +1,11 @@
 //! When the shifts of a history were opened and closed.
 
-ghost use Rattle.std.specs.Prelude.{◌≡◌, [], None, OnErr, OnOk};
-ghost use Rattle.shift_table.specs.ShiftTimes.{time_word, times_after, times_of_shift};
+ghost use Rattle.std.specs.Prelude.{◌≡◌, OnOk};
+ghost use Rattle.written_site.specs.RowWords.{closes_shift};
+ghost use Rattle.row_tally.specs.ShiftTimes.{no_times, open_number, times_after};
+ghost use Rattle.row_tally.specs.ShiftTimes.{times_of_shift};
 
-use chapters::closes_shift;
-use site_base::{NoMemory, Row, ShiftNo};
+use site_base::{Event, NoMemory, Row, ShiftNo};
 use stamps::Stamp;
 use std::alloc::Global;
 use std::marker::Model;
@@ -28,7 +29,7 @@ pub struct TimesReader {
 }
 
 impl Model for TimesReader {
-    ghost use Rattle.shift_table.specs.ShiftTimes.{TimesRead};
+    ghost use Rattle.row_tally.specs.ShiftTimes.{TimesRead};
 
     ghost Value = { TimesRead };
 
@@ -38,7 +39,7 @@ impl Model for TimesReader {
 impl TimesReader {
     /// A reader at the opening of a history. It takes no memory.
     pub fn new(alloc: Global) -> TimesReader
-        ensures { result ≡ record { closed = []; current = None } }
+        ensures { result ≡ no_times }
     {
         TimesReader {
             closed: Vec::new(alloc),
@@ -48,8 +49,7 @@ impl TimesReader {
 
     /// Reads the next row, which was at this time, if it is known.
     pub fn read(&mut self, row: &Row, time: &Option<Stamp>) -> Result<(), NoMemory>
-        ensures read { OnOk result (self.new ≡ times_after row.now time.now self.old) }
-        ensures err { OnErr result (self.new ≡ self.old) }
+        ensures { OnOk result (self.new ≡ times_after row.now time.now self.old) }
     {
         let mut times = self.current.unwrap_or(ShiftTimes {
             opened: *time,
@@ -63,6 +63,13 @@ impl TimesReader {
             self.current = Some(times);
         }
         Ok(())
+    }
+
+    /// The number of the open shift.
+    pub(crate) fn open_number(&self) -> u64
+        ensures { result ≡ open_number self.now }
+    {
+        self.closed.len() as u64 + 1
     }
 
     /// When the shift of this number was opened and closed. One that isn't closed is the open one.
@@ -80,12 +87,9 @@ impl TimesReader {
     }
 }
 
-/// A time; where it isn't known, `-`.
-pub(crate) fn time_word(time: &Option<Stamp>) -> &str
-    ensures { result.now ≡ time_word time.now }
+/// Is it an accepted CloseShift?
+fn closes_shift(row: &Row) -> bool
+    ensures { result ≡ closes_shift row.now }
 {
-    match time {
-        Some(time) => time.as_str(),
-        None => "-",
-    }
+    row.reply.is_ok() && matches!(row.event, Event::CloseShift)
 }
