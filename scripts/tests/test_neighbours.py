@@ -679,9 +679,10 @@ def accepting_fails_at_doors_alone():
             for peer in answered[:8]:
                 leave(peer)
             waiting = [peer for peer in peers if peer not in answered]
-            served = select.select(waiting, [], [], PATIENCE)[0]
-            expect("some that waited are served", 0 < len(served) <= 8, True)
-            expect("one", number(decode(receive_message(served[0]))[0]), NOT_SIGNED_ON)
+            served = lambda: select.select(waiting, [], [], 0)[0]
+            wait_until("eight that waited served", lambda: len(served()) >= 8)
+            for peer in served():
+                expect("one", number(decode(receive_message(peer))[0]), NOT_SIGNED_ON)
         told = "cannot accept: Too many open files (os error 24); it is tried again each second\n"
         end(day, told)
 
