@@ -3,10 +3,30 @@ then each is counted, and the next one is made all the same."""
 
 import contextlib
 import os
+import re
 import threading
 
 SHOWN = 300  # characters of a text that isn't as wanted
 NO_FILE = "No such file or directory"  # the system's words
+ADVICE = {
+    r"chapter \d+ is missing": "put its file back from a backup",
+    r"chapter \d+ line \d+":
+        "the line is torn or was edited: see 'A chapter with a bad line' in OPERATING.md",
+    r"chapter \d+ doesn't go on from chapter \d+":
+        "put back the right file from a backup, or take out what doesn't belong there",
+    r"history of another site":
+        "give the site file that the history began with, or none; take out another site's chapters",
+    r"history in use": "stop the station that has the folder, and print into none of its files",
+    r"site\.toml: fault .*": "put it back from a backup",
+    r"fault 74 rows":
+        "rows is at least 1024 for a station: raise it in the site file, or leave it out",
+    r"house \d+: no manager": "name a till of its own among the managers of the site file",
+    r"door .*: no node": "rename the folder, as till-01, dispenser-01 or feed, or take it out",
+    r"door .*: in use": "stop the station that has these doors",
+    r"door .*: cannot listen":
+        "see that this user may write to the folder, that its path is short, and that socket is"
+        " nothing else there",
+}  # fmt: skip
 
 
 class Failed(Exception):
@@ -58,6 +78,14 @@ def expect_end(what, end, status=0, out=b"", err=""):
     out = out.read_bytes() if isinstance(out, os.PathLike) else out
     got = {"status ": end.status, "output ": end.out, "error ": end.err.removesuffix("\n")}
     expect_parts(what, got, {"status ": status, "output ": out, "error ": err})
+
+
+def advised(fault):
+    """A fault, and below it what to do, as a station and those who read its history say it."""
+    for pattern, advice in ADVICE.items():
+        if re.fullmatch(pattern, fault):
+            return f"{fault}\n{advice}"
+    raise Failed(f"no advice for {fault}")
 
 
 def first_line(text):

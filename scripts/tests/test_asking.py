@@ -16,8 +16,9 @@ from tests.built import PROGRAM
 from tests.suite import make_folder, test, test_beside
 
 HERE = make_folder()
-NOBODY = "the station closed the connection before it replied"
-SILENT = "no reply came within 30 seconds"
+LOOK = "see whether the request was done before you ask again"
+NOBODY = f"the station closed the connection before it replied: {LOOK}"
+SILENT = f"no reply came within 30 seconds: {LOOK}"
 PATIENCE, LATE = 30, 3  # seconds that `ask` waits for a reply, and that it may be late
 
 
@@ -217,10 +218,11 @@ def what_is_no_request():
 def where_no_station_is():
     with socket.create_server(("127.0.0.1", 0)) as server:
         free = server.getsockname()[1]
-    why = f"nobody listens on port {free}"
+    why = f"nobody listens on port {free}: start the station, or name its port"
     expect_end("a free port", ask("t1 SignOn\n", "--port", free), 1, b"", why)
     path = HERE / "nobody"
-    expect_end("no door", ask("t1 SignOn\n", "--door", path), 1, b"", f"nobody listens at {path}")
+    why = f"nobody listens at {path}: start the station with this door"
+    expect_end("no door", ask("t1 SignOn\n", "--door", path), 1, b"", why)
     for words in ((), ("--port", 1, "--door", path)):
         expect_end("one is wanted", ask("", *words), 2, b"", "one of --port and --door is wanted")
     for port in ("0", "65536", "+80", "-1", "x", ""):
@@ -248,6 +250,7 @@ def start_fake(answer):
 @test
 def what_is_no_station():
     with start_fake(b"HTTP/1.1 400 Bad Request\r\n\r\n") as port:
-        expect_end("HTTP", ask("t1 SignOn\n", "--port", port), 1, b"", "what answers is no station")
+        why = "what answers is no station: name its own port, not its page's"
+        expect_end("HTTP", ask("t1 SignOn\n", "--port", port), 1, b"", why)
     with start_fake(b"") as port:
         expect_end("nothing", ask("t1 SignOn\n", "--port", port), 1, b"", NOBODY)

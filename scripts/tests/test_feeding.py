@@ -389,7 +389,7 @@ def a_peer_that_takes_nothing():
     front of the rows."""
     folder, doors = HERE / "slow", HERE / "slow doors"
     (doors / "feed").mkdir(parents=True)
-    no_doors = f"no doors in {doors}\n"
+    no_doors = f"no doors in {doors}: each node may connect over TCP\n"
     with start_feed("--history", folder, "--doors", doors, told=no_doors) as day:
         with FeedPeer(doors / "feed/socket") as slow, day.feed("from 0") as feed:
             slow.send("from 0\n")
@@ -443,7 +443,7 @@ def its_door():
     folder, doors = HERE / "door history", HERE / "doors"
     (doors / "feed").mkdir(parents=True)
     path = doors / "feed" / "socket"
-    no_doors = f"no doors in {doors}\n"
+    no_doors = f"no doors in {doors}: each node may connect over TCP\n"
     with start_feed("--history", folder, "--doors", doors, told=no_doors) as day:
         with FeedPeer(path) as feed, day.feed("from 0") as other:
             feed.send("from 0\n")
@@ -462,7 +462,7 @@ def a_till_of_the_examples():
     another sale of the point was payable before."""
     doors = HERE / "till doors"
     (doors / "feed").mkdir(parents=True)
-    no_doors = f"no doors in {doors}\n"
+    no_doors = f"no doors in {doors}: each node may connect over TCP\n"
     with start_feed("--history", HERE / "till", "--doors", doors, told=no_doors) as day:
         day.tell(sign_on(2), command_point(2, 0, 1, OPEN), report(1, 0, LIFT, 0))
         day.tell(command_point(2, 0, 1, RELEASE), report(1, 0, FLOW, 1_000))
@@ -644,7 +644,7 @@ def a_crowd():
             with start() as day:
                 crowd.port = day.port
                 kill_at_work(day, number, crowd, chance)
-        with start(told=f"no doors in {doors}\n") as day:
+        with start(told=f"no doors in {doors}: each node may connect over TCP\n") as day:
             crowd.port = day.port
             while crowd.count("returns") < RETURNS and not crowd.faults:
                 join(start_work(day, KILLS, CROWD_ROWS))

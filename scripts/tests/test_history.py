@@ -20,7 +20,7 @@ import subprocess
 import threading
 import time
 
-from shared.checks import NO_FILE, Failed, Skipped, expect, first_line
+from shared.checks import NO_FILE, Failed, Skipped, advised, expect, first_line
 from shared.histories import (
     FIRST_LINES, LOCK_FILE, NO_SEAL, SITE_FILE, Told, chapter_path, check_chapters, count_rows,
     expect_looks, find_untold, first_lines, is_notice, is_read, is_sign_off, list_chapters,
@@ -51,6 +51,7 @@ AT_ONCE = 6  # stations
 MANY = 200  # rows, and messages, until a disk is full
 SITE_LINE = 2  # of a chapter
 MOST_KILOBYTES = 16_384  # of a station that forgets rows
+IN_USE = f"{advised('history in use')}\n".encode()
 LISTENING = re.compile(rb"listening 127\.0\.0\.1:\d+\n")
 # Till 2 releases point 1, which till 1 opened, and its dispenser sells ten litres.
 DAY = [
@@ -143,11 +144,16 @@ def expect_refused(what, folder, fault, site=KNOWN_SITE, **how):
     expect(what, got, (1, b"", f"{fault}\n"))
 
 
+def expect_advised(what, folder, fault, site=KNOWN_SITE, **how):
+    """.. and what to do."""
+    expect_refused(what, folder, advised(fault), site, **how)
+
+
 def expect_line(what, text, number, site=KNOWN_SITE):
     """The line of this number is no chapter's: the file stays as it is."""
     path = write_chapter(text, site=site)
     fault = "history of another site" if number == SITE_LINE else f"chapter 1 line {number}"
-    expect_refused(what, path, fault, site)
+    expect_advised(what, path, fault, site)
     expect(f"{what}: the file", path.read_bytes(), text)
 
 
@@ -346,7 +352,7 @@ def other_first_lines():
         path = write_chapter(FIRST[:length])
         whole = FIRST[:length].count(b"\n")
         faults = "chapter 1 line 1", "history of another site", "chapter 1 line 3"
-        expect_refused(f"{length} octets", path, faults[whole])
+        expect_advised(f"{length} octets", path, faults[whole])
         expect(f"{length} octets stay", path.read_bytes(), FIRST[:length])
     for wrong in (site[:-1] + b" \n", site[:-2] + b"\n", site.upper(), b"\n", b""):
         expect_line(f"{wrong} names the site", title + wrong + after + rows, SITE_LINE)
@@ -478,13 +484,13 @@ def in_use():
         link = HERE / "link"
         link.symlink_to(folder)
         for name in (folder, link, f"{folder}/", f"{folder}/../history"):
-            expect_refused("in use", name, "history in use")
-            expect_refused("in use, without a site file", name, "history in use", None)
+            expect_advised("in use", name, "history in use")
+            expect_advised("in use, without a site file", name, "history in use", None)
         link.unlink()
         expect("the file", path.read_bytes(), before)
         expect_files("in use", folder, KNOWN_SITE, 1)
         (folder / LOCK_FILE).unlink()
-        expect_refused("without the lock's file", folder, "history in use")
+        expect_advised("without the lock's file", folder, "history in use")
         expect("the file", path.read_bytes(), before)
         day.process.kill()
         day.process.wait(WAIT)
@@ -518,7 +524,7 @@ def starts_at_once():
                 for one in all_:
                     _, err = one.communicate(timeout=WAIT)
                     ends.append((one.returncode, err))
-            refused = [(1, b"history in use\n")] * (AT_ONCE - 1)
+            refused = [(1, IN_USE)] * (AT_ONCE - 1)
             expect("how they end", sorted(ends), [(0, b""), *refused])
             expect("the file", read_plain(path), text + OFF_1 if text else FIRST)
             expect_files("at once", path.parent, KNOWN_SITE, 1)
@@ -560,12 +566,12 @@ def own_sites():
     for what, one in others.items():
         site.write_text(one)
         expect("another text", one != told, True)
-        expect_refused(what, folder, "history of another site", site)
+        expect_advised(what, folder, "history of another site", site)
         expect(f"{what}: the chapter", path.read_bytes(), text)
         expect_files(what, folder, KNOWN_SITE, 1)
     site.write_text(others["a price"])
     empty = write_history(HERE / "no_chapter", KNOWN_SITE)
-    expect_refused("without a chapter", empty, "history of another site", site)
+    expect_advised("without a chapter", empty, "history of another site", site)
     ended = run(*command(empty, site=None))
     expect("a site file and no chapter", (ended.status, ended.err), (0, ""))
     expect("it is new", ended.out.startswith(b"history new\nlistening "), True)
@@ -586,7 +592,7 @@ def faults_of_own_sites():
         if "rows" not in fault:
             fault = first_line(checked.err).strip()
         for site in (None, KNOWN_SITE):
-            expect_refused(f"{text[:20]}", folder, f"{SITE_FILE}: {fault}", site)
+            expect_advised(f"{text[:20]}", folder, f"{SITE_FILE}: {fault}", site)
         expect("its site file stays", own.read_bytes(), text)
     own.unlink()
     for site in (None, KNOWN_SITE):
@@ -764,7 +770,7 @@ def outputs_into_the_history():
     folder = write_told()
     for path in (*list_chapters(folder), folder / SITE_FILE):
         expect("errors", start_into(folder, path, "stderr"), (b"", b""))
-        expect("output", start_into(folder, path, "stdout"), (b"", b"history in use\n"))
+        expect("output", start_into(folder, path, "stdout"), (b"", IN_USE))
 
 
 @test
@@ -773,7 +779,7 @@ def outputs_into_a_history_in_use():
     folder = write_told()
     with start_station(folder) as day:
         for path in (*list_chapters(folder), folder / SITE_FILE):
-            expect("output", start_into(folder, path, "stdout"), (b"", b"history in use\n"))
+            expect("output", start_into(folder, path, "stdout"), (b"", IN_USE))
             expect("errors", start_into(folder, path, "stderr"), (b"", b""))
         end(day, None)
     text = without_marks(read_texts(folder)[1])
@@ -851,7 +857,7 @@ def mistaken_words():
     expect("the file", path.read_bytes(), b"bad\n")
     with start_station(write_chapter(FIRST, "first")) as day:
         ended = run(PROGRAM, "station", KNOWN_SITE, "--port", str(day.port), "--history", folder)
-        expect("before listening", (ended.status, ended.err), (1, "chapter 1 line 1\n"))
+        expect("before listening", (ended.status, ended.err), (1, advised("chapter 1 line 1") + "\n"))
         path = write_chapter(DAY_TEXT)
         ended = run(PROGRAM, "station", KNOWN_SITE, "--port", str(day.port), "--history", folder)
         expect("listening", ended[:3], (1, b"", tell_deaf(day.port)))
@@ -1359,11 +1365,11 @@ def wrong_chapters():
             for place, text in texts.items():
                 chapter_path(folder, place).write_bytes(text)
             what = f"{fault}, case {number}"
-            expect_refused(what, folder, fault)
+            expect_advised(what, folder, fault)
             for word in ("shifts", "next"):
                 ended = run(PROGRAM, word, folder)
                 got = (ended.status, ended.out, ended.err)
-                expect(f"{what}: {word}", got, (1, b"", f"{fault}\n"))
+                expect(f"{what}: {word}", got, (1, b"", f"{advised(fault)}\n"))
             after = {place: chapter_path(folder, place).read_bytes() for place in texts}
             expect(f"{what}: the files", after, texts)
             expect(f"{what}: no more", len(list_chapters(folder)), len(texts))
@@ -1448,7 +1454,7 @@ def closed_files_that_change():
         first.unlink()
         work.sell(1, 1_000)
         end(day)
-    expect_refused("a chapter was removed", folder, "chapter 1 is missing")
+    expect_advised("a chapter was removed", folder, "chapter 1 is missing")
     first.write_bytes(text)
     ended = run(*command(folder))
     expect("it is back", (ended.status, ended.err), (0, ""))

@@ -244,7 +244,8 @@ def faults():
     first = f"# witsomar journal of site {'12' * 32}\n".encode()
     ended = run(PROGRAM, "meters", SITE, given=first + given)
     expect("another site", (ended.status, ended.out), (1, b""))
-    expect("that it is another's", ended.err, "journal of another site\n")
+    why = "journal of another site\ngive the site file on which its rows were made\n"
+    expect("that it is another's", ended.err, why)
 
 
 # ---- a history

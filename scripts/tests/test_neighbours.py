@@ -22,7 +22,7 @@ import time
 import typing
 
 from shared import floods
-from shared.checks import Failed, Skipped, expect
+from shared.checks import Failed, Skipped, advised, expect
 from shared.histories import DETAIL, read_chapters, read_rows
 from shared.running import PATIENCE, compile_c, run, tell_deaf
 from shared.serving import WAIT, list_addresses, start_day, wait_until
@@ -194,11 +194,12 @@ class Doors:
 
 
 def expect_refused_start(what, words, wanted, port=0):
-    """A start on these words ends with this line, before it listens."""
+    """A start on these words ends with this text as its last lines, before it listens."""
     ended = run(PROGRAM, "station", KNOWN_SITE, "--port", *map(str, [port, *words]), given=b"")
-    told = ended.err.splitlines()[-1:]
+    wanted = wanted.splitlines()
+    told = ended.err.splitlines()[-len(wanted) :]
     got = (ended.status, b"listening" in ended.out, told)
-    expect(what, got, (1, False, [wanted]))
+    expect(what, got, (1, False, wanted))
 
 
 @test
@@ -262,7 +263,7 @@ def a_folder_without_doors():
     doors, folder = Doors("none"), HERE / "history beside no doors"
     with start_station("--doors", doors.folder, "--history", folder) as day, day.connect() as till:
         expect_done(till, sign_on(1))
-        end(day, f"no doors in {doors.folder}\n")
+        end(day, f"no doors in {doors.folder}: each node may connect over TCP\n")
 
 
 @test
@@ -275,7 +276,7 @@ def sockets_of_earlier_runs():
     expect("a socket is left", doors.path("till-01").is_socket(), True)
     with start_station("--doors", doors.folder) as day, doors.connect("till-01") as till:
         expect_done(till, sign_on(1))
-        expect_refused_start("in use", ["--doors", doors.folder], "door till-01: in use")
+        expect_refused_start("in use", ["--doors", doors.folder], advised("door till-01: in use"))
         with doors.connect("till-01") as other:
             expect("it goes on", is_signed_on(other, 1), True)
         end(day)
@@ -305,7 +306,7 @@ def starts_at_the_same_time():
             for day in days:
                 if day not in serving:
                     _, err = day.communicate(timeout=WAIT)
-                    wanted = (1, b"door dispenser-01: in use\n")
+                    wanted = (1, advised("door dispenser-01: in use").encode() + b"\n")
                     expect("another one", (day.returncode, err.split(b"kept\n")[-1]), wanted)
             serving[0].kill()
             serving[0].wait()
@@ -320,7 +321,7 @@ def starts_that_fail_leave_no_socket():
     first, last = doors.path("dispenser-01"), doors.path("till-01")
     last.write_text("somebody's\n")
     words = ["--doors", doors.folder]
-    expect_refused_start("a later door", words, "door till-01: cannot listen")
+    expect_refused_start("a later door", words, advised("door till-01: cannot listen"))
     expect("the first socket", first.exists(), False)
     expect("the file", last.read_text(), "somebody's\n")
     last.unlink()
@@ -347,7 +348,7 @@ def wrong_doors():
     )  # fmt: skip
     for name in names:
         doors = Doors(f"wrong-{name}", "till-02", name)
-        expect_refused_start(name, ["--doors", doors.folder], f"door {name}: no node")
+        expect_refused_start(name, ["--doors", doors.folder], advised(f"door {name}: no node"))
     kinds = {
         "a file": lambda path: path.write_text("somebody's\n"),
         "a folder": lambda path: path.mkdir(),
@@ -359,7 +360,7 @@ def wrong_doors():
         path = doors.path("dispenser-64")
         make(path)
         before = path.lstat()
-        why = "door dispenser-64: cannot listen"
+        why = advised("door dispenser-64: cannot listen")
         expect_refused_start(kind, ["--doors", doors.folder], why)
         left = path.lstat()
         wanted = (before.st_ino, before.st_mode, before.st_size)
@@ -1033,7 +1034,8 @@ def the_house_till_is_nobodys():
             expect_done(till, sign_on(2))
         expect("rows", count_rows(end(day)), 2)
     for till in (2, 32):
-        expect_refused_start(f"till {till}", ["--house", till], f"house {till}: no manager")
+        why = advised(f"house {till}: no manager")
+        expect_refused_start(f"till {till}", ["--house", till], why)
     for word in ("0", "33", "256", "-1", "+1", "one", ""):
         ended = run(PROGRAM, "station", KNOWN_SITE, "--port", "0", f"--house={word}")
         wanted = (2, b"", "error: --house is a decimal number from 1 to 32\n")

@@ -27,6 +27,7 @@ MESSAGES, REPLIES = STORED.read_text().splitlines(), ANSWERS.read_bytes().splitl
 FIRST = MESSAGES[0].replace(" ", "")
 LEAST_MEMORY = 12_000 * 1024  # octets of addresses, too few for 200,000 replies or rows
 HERE = make_folder()
+OWN_SITE = "give the site file on which its rows were made"
 
 
 def forecourt(*words, given=b"", **how):
@@ -725,8 +726,9 @@ def texts_of_a_site():
             end = forecourt(command, KNOWN_SITE, given=head.format(own) + rows)
             expect_end(f"{name} of this site", end, 0, plain.out)
             end = forecourt(command, KNOWN_SITE, given=head.format(other) + rows)
-            expect_end(f"{name} of another site", end, 1, b"", f"{text} of another site")
-            refused = (1, b"", f"{text} of another site")
+            said = f"{text} of another site\n{OWN_SITE}"
+            refused = (1, b"", said)
+            expect_end(f"{name} of another site", end, *refused)
             for kind, given in {
                 "with CRLF": head.format(other).replace("\n", "\r\n") + rows,
                 "in upper case": head.format(other.upper()) + rows,
@@ -744,7 +746,7 @@ def texts_of_a_site():
             }.items():
                 end = forecourt(command, KNOWN_SITE, given=given)
                 name_below = f"{name} of another site, {kind}"
-                expect_end(name_below, end, 1, above, f"{text} of another site")
+                expect_end(name_below, end, 1, above, said)
             end = forecourt(command, KNOWN_SITE, given="#" * 255 + "\n" + head.format(other) + rows)
             expect_end(f"{name} of another site, below a long comment", end, *refused)
             for kind, given in {
@@ -758,7 +760,7 @@ def texts_of_a_site():
         comment = f"# site {other}\n"
         end = forecourt(command, KNOWN_SITE, given=comment + rows)
         name = f"{command} of a history without its first line"
-        expect_end(name, end, 1, b"", "history of another site")
+        expect_end(name, end, 1, b"", f"history of another site\n{OWN_SITE}")
 
 
 def fold(path):

@@ -11,7 +11,7 @@ import shutil
 import subprocess
 
 from shared import random_words
-from shared.checks import NO_FILE, expect
+from shared.checks import NO_FILE, advised, expect
 from shared.histories import (
     LOCK_FILE, SITE_FILE, chapter_path, is_read, list_chapters, read_chapters, retitle, seal_line,
     time_line, write_chapters, write_history, write_rows,
@@ -511,7 +511,7 @@ def faulty_histories():
         folder = write_history(HERE / "faulty", KNOWN_SITE, *given)
         for command in ("replay", "explain", "sales", "report"):
             ended = run(PROGRAM, command, folder)
-            expect(f"{what}: {command}", (ended.status, ended.err), (1, f"{fault}\n"))
+            expect(f"{what}: {command}", (ended.status, ended.err), (1, f"{advised(fault)}\n"))
             wanted = rows if command in ("replay", "explain") else 0
             lines = ended.out.splitlines()
             same = wanted - (what == "another row" and wanted > 0)  # rows that stay as they are
@@ -521,7 +521,7 @@ def faulty_histories():
     chapter_path(folder, 2).unlink()
     for command in ("replay", "explain", "sales", "report"):
         ended = run(PROGRAM, command, folder)
-        wanted = (1, b"", "chapter 2 is missing\n")
+        wanted = (1, b"", advised("chapter 2 is missing") + "\n")
         expect(f"a chapter is missing: {command}", (ended.status, ended.out, ended.err), wanted)
 
 
@@ -537,7 +537,7 @@ def no_histories():
     for command in ("replay", "explain", "sales", "report"):
         for folder, fault in (
             (nothing, f"cannot read {nothing}/site.toml: {NO_FILE}\n"),
-            (faulty, "site.toml: fault 72 product\n"),
+            (faulty, advised("site.toml: fault 72 product") + "\n"),
         ):
             ended = run(PROGRAM, command, folder)
             got = (ended.status, ended.out, ended.err)

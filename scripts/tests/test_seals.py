@@ -8,7 +8,7 @@ import re
 import subprocess
 import typing
 
-from shared.checks import NO_FILE, expect
+from shared.checks import NO_FILE, advised, expect, first_line
 from shared.histories import (
     FIRST_LINES, LOCK_FILE, NO_SEAL, SITE_FILE, chapter_path, first_lines, seal_line, seal_of,
     write_history, write_rows,
@@ -139,8 +139,9 @@ def expect_fault(what, texts, rows, starts=True):
     if ended.status == 0:
         expect(f"{what}: a fault", None in faults, True)
         return None
-    fault = ended.err.removesuffix("\n")
+    fault = first_line(ended.err).removesuffix("\n")
     expect(f"{what}: {fault} of {faults}", (fault in faults, ended.out), (True, b""))
+    expect(f"{what}: what to do", ended.err, advised(fault) + "\n")
     expect(f"{what}: the status", ended.status, 1)
     if starts:
         start = run(PROGRAM, "station", "--port", "0", "--history", folder)
@@ -315,12 +316,12 @@ def changed_chapters():
     folder = chapters.write()
     chapter_path(folder, 2).unlink()
     ended = verify(folder)
-    said = "chapter 2 is missing\n"
+    said = advised("chapter 2 is missing") + "\n"
     expect("a number is left out", (ended.status, ended.out, ended.err), (1, b"", said))
     folder = chapters.write()
     (folder / SITE_FILE).write_bytes(KNOWN_SITE.read_bytes() + b"\n")
     ended = verify(folder)
-    said = "history of another site\n"
+    said = advised("history of another site") + "\n"
     expect("another site", (ended.status, ended.out, ended.err), (1, b"", said))
     (folder / SITE_FILE).unlink()
     ended = verify(folder)
@@ -487,7 +488,7 @@ def story_of_a_sale():
     ])  # fmt: skip
     for word in ("1/1/2", "2/2/1", "1/3/1", "64/999/9999"):
         ended = run(PROGRAM, "story", folder, word)
-        said = f"no sale {word}\n"
+        said = f"no sale {word}: forecourt sales lists them all\n"
         expect(word, (ended.status, ended.out, ended.err), (1, b"", said))
     for word in ("", "1", "1/1", "1/1/1/1", "0/1/1", "65/1/1", "1/0/1", "1/1000/1", "1/1/0",
                  "1/1/10000", "+1/1/1", "1/+1/1", "1/1/+1", "-1/1/1", "1/1/x", "1//1", " 1/1/1",
@@ -507,10 +508,11 @@ def story_before_a_fault():
     line = chapters.texts[1].count(b"\n") + 1
     ended = run(PROGRAM, "story", folder, "1/1/1")
     got = ended.status, ended.out, ended.err
-    expect("a line more", got, (1, b"", f"chapter 2 line {line}\n"))
+    said = advised(f"chapter 2 line {line}") + "\n"
+    expect("a line more", got, (1, b"", said))
     ended = run(PROGRAM, "story", folder, "1/9/1")
     got = ended.status, ended.out, ended.err
-    expect("of no sale", got, (1, b"", f"chapter 2 line {line}\n"))
+    expect("of no sale", got, (1, b"", said))
 
 
 @test

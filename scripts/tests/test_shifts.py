@@ -8,7 +8,7 @@ import shutil
 import subprocess
 import tomllib
 
-from shared.checks import NO_FILE, expect
+from shared.checks import NO_FILE, advised, expect
 from shared.histories import (
     LOCK_FILE, SITE_FILE, list_chapters, time_line, whole_lines, write_chapters, write_history,
     write_rows,
@@ -298,7 +298,7 @@ def no_histories():
             (HERE / "none", f"cannot read {HERE / 'none'}/site.toml: {NO_FILE}\n"),
             (file, f"cannot read {file}/site.toml: Not a directory\n"),
             (nothing, f"cannot read {nothing}/site.toml: {NO_FILE}\n"),
-            (faulty, "site.toml: fault 72 product\n"),
+            (faulty, advised("site.toml: fault 72 product") + "\n"),
         ):
             ended = run(PROGRAM, word, folder)
             got = (ended.status, ended.out, ended.err)

@@ -25,7 +25,7 @@ import termios
 import threading
 import time
 
-from shared.checks import NO_FILE, Failed, expect, first_line
+from shared.checks import NO_FILE, Failed, advised, expect, first_line
 from shared.histories import is_read
 from shared.running import close_input, compile_c, run
 from shared.serving import (
@@ -1071,11 +1071,11 @@ def faults_of_doors():
     folder that isn't there end the start. A socket that an earlier run left is replaced."""
     for name in ("kiosk", "till-1", "till-00", "till-33", "dispenser-65", "till-01x", "Till-01"):
         doors = make_doors("till-02", name)
-        expect_no_start(doors, f"door {name}: no node\n")
+        expect_no_start(doors, advised(f"door {name}: no node") + "\n")
     doors = make_doors("till-01")
     (doors / "a file").write_text("")
     with start_station("--doors", doors, port=None) as day:
-        expect_no_start(doors, "door till-01: in use\n")
+        expect_no_start(doors, advised("door till-01: in use") + "\n")
         day.process.kill()
     with start_station("--doors", doors, port=None) as day:
         with connect_at(doors / "till-01") as till:
@@ -1083,7 +1083,7 @@ def faults_of_doors():
         end(day)
     doors = make_doors("dispenser-03")
     (doors / "dispenser-03" / "socket").write_text("kept")
-    expect_no_start(doors, "door dispenser-03: cannot listen\n")
+    expect_no_start(doors, advised("door dispenser-03: cannot listen") + "\n")
     expect("the file", (doors / "dispenser-03" / "socket").read_text(), "kept")
     expect_no_start(HERE / "no doors", f"cannot read {HERE / 'no doors'}\n")
     for words in ([], ["--page", "0"]):
@@ -1329,7 +1329,7 @@ def too_few_rows():
     for rows in (1, 1_023):
         ended = run(PROGRAM, "station", write_limit(rows), "--port", "0", given=b"")
         got = (ended.status, ended.out, ended.err)
-        expect(f"{rows} rows", got, (1, b"", "fault 74 rows\n"))
+        expect(f"{rows} rows", got, (1, b"", advised("fault 74 rows") + "\n"))
 
 
 def sell(day, till, point):

@@ -147,7 +147,10 @@ impl<S: Read + Write + Drop> Asking<S> {
         };
         match self.decoder.feed(&self.piece[..read]) {
             Ok(fed) if fed.fault.is_none() => Ok(fed.messages),
-            Ok(_) => Err(exit_with(eprintln!(rt; "what answers is no station"), FAULT)),
+            Ok(_) => Err(exit_with(
+                eprintln!(rt; "what answers is no station: name its own port, not its page's"),
+                FAULT,
+            )),
             Err(NoMemory) => Err(exit_no_memory(rt)),
         }
     }
@@ -222,7 +225,10 @@ fn print_one<R: Print + Eprint>(
 /// The station closed the connection before it replied.
 fn exit_closed(rt: &impl Eprint) -> ExitCode {
     exit_with(
-        eprintln!(rt; "the station closed the connection before it replied"),
+        eprintln!(rt;
+            "the station closed the connection before it replied: \
+             see whether the request was done before you ask again"
+        ),
         FAULT,
     )
 }
@@ -230,7 +236,10 @@ fn exit_closed(rt: &impl Eprint) -> ExitCode {
 /// No reply came in time.
 fn exit_silent(rt: &impl Eprint) -> ExitCode {
     exit_with(
-        eprintln!(rt; "no reply came within {REPLY_SECONDS} seconds"),
+        eprintln!(rt;
+            "no reply came within {REPLY_SECONDS} seconds: \
+             see whether the request was done before you ask again"
+        ),
         FAULT,
     )
 }

@@ -78,7 +78,10 @@ fn ask_port<
 >(rt: &R, lines: Lines<I>, port: u16, strict: bool) -> ExitCode {
     let there = SocketAddr::V4(SocketAddrV4::new(Ipv4Addr::LOCALHOST, port));
     let Ok(stream) = TcpStream::connect(rt, there) else {
-        return exit_with(eprintln!(rt; "nobody listens on port {port}"), FAULT);
+        return exit_with(
+            eprintln!(rt; "nobody listens on port {port}: start the station, or name its port"),
+            FAULT,
+        );
     };
     let _ = stream.set_nodelay(true);
     let _ = stream.set_read_timeout(Some(Duration::from_secs(REPLY_SECONDS)));
@@ -101,7 +104,10 @@ fn ask_door<R: Files + Net + Print + Eprint + AllocGlobal, I: Read + Drop>(
         return exit_no_memory(rt);
     };
     let Ok(stream) = UnixStream::connect(rt, socket.as_str()) else {
-        return exit_with(eprintln!(rt; "nobody listens at {socket}"), FAULT);
+        return exit_with(
+            eprintln!(rt; "nobody listens at {socket}: start the station with this door"),
+            FAULT,
+        );
     };
     let _ = stream.set_read_timeout(Some(Duration::from_secs(REPLY_SECONDS)));
     ask_all(rt, lines, stream, strict)

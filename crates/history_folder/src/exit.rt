@@ -4,7 +4,8 @@ ghost use Rattle.program_io.specs.Statuses.{IsFailed};
 
 use crate::fault::FolderFault;
 use chapters::HistoryFault;
-use program_io::{FAULT, exit_fault, exit_no_memory, exit_with};
+use program_io::{FAULT, exit_no_memory, exit_with};
+use std::fmt::Display;
 use std::process::ExitCode;
 
 /// The line of a chapter that names its site.
@@ -17,7 +18,7 @@ pub fn exit_folder(rt: &impl Eprint, folder: &str, fault: FolderFault) -> ExitCo
     match fault {
         FolderFault::NoMemory => exit_no_memory(rt),
         FolderFault::Unread => exit_with(eprintln!(rt; "cannot read {folder}"), FAULT),
-        FolderFault::Missing(_) => exit_fault(rt, fault, FAULT),
+        FolderFault::Missing(_) => exit_advised(rt, fault, "put its file back from a backup"),
     }
 }
 
@@ -27,9 +28,35 @@ pub fn exit_history(rt: &impl Eprint, fault: HistoryFault) -> ExitCode
 {
     match fault {
         HistoryFault::NoMemory => exit_no_memory(rt),
-        HistoryFault::Line(_, line) if line == SITE_LINE => {
-            exit_with(eprintln!(rt; "history of another site"), FAULT)
-        }
-        HistoryFault::Line(_, _) | HistoryFault::NotAfter(_, _) => exit_fault(rt, fault, FAULT),
+        HistoryFault::Line(_, line) if line == SITE_LINE => exit_another_site(rt),
+        HistoryFault::Line(_, _) => exit_advised(
+            rt,
+            fault,
+            "the line is torn or was edited: see 'A chapter with a bad line' in OPERATING.md",
+        ),
+        HistoryFault::NotAfter(_, _) => exit_advised(
+            rt,
+            fault,
+            "put back the right file from a backup, or take out what doesn't belong there",
+        ),
     }
+}
+
+/// How the program ends where the site of a history isn't that of its chapters, or of a file that
+/// is given.
+pub fn exit_another_site(rt: &impl Eprint) -> ExitCode
+    ensures { IsFailed result }
+{
+    exit_advised(
+        rt,
+        "history of another site",
+        "give the site file that the history began with, or none; take out another site's chapters",
+    )
+}
+
+/// Prints a fault, and below it what to do.
+pub fn exit_advised<F: Display + Drop>(rt: &impl Eprint, fault: F, advice: &str) -> ExitCode
+    ensures { IsFailed result }
+{
+    exit_with(eprintln!(rt; "{fault}\n{advice}"), FAULT)
 }

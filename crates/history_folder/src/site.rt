@@ -41,6 +41,9 @@ pub fn site_in_folder<R: Eprint + AllocGlobal>(
     match read_config(rt.alloc(), octets) {
         Ok(config) => Ok(config),
         Err(ConfigFault::NoMemory) => Err(exit_no_memory(rt)),
-        Err(fault) => Err(exit_with(eprintln!(rt; "{SITE_FILE}: {fault}"), FAULT)),
+        Err(fault) => Err(exit_with(
+            eprintln!(rt; "{SITE_FILE}: {fault}\nput it back from a backup"),
+            FAULT,
+        )),
     }
 }

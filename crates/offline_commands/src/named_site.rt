@@ -12,7 +12,7 @@ use devices::Counted;
 use forecourt_engines::ReplayFault;
 use hex_lines::text_of;
 use memchr::memchr;
-use program_io::{FAULT, exit_fault, exit_replay, read_site_file};
+use program_io::{FAULT, exit_replay, exit_with, read_site_file};
 use sha2::{Digest, Sha256};
 use site_base::SiteConfig;
 use std::io::{self, ErrorKind, Read};
@@ -133,7 +133,10 @@ fn exit_after(rt: &impl Eprint, another: Option<NamedText>, fault: Option<Replay
     ensures another { IfSome another (λ _. exit_status result ≡ FAULT) }
 {
     match another {
-        Some(text) => exit_fault(rt, text, FAULT),
+        Some(text) => exit_with(
+            eprintln!(rt; "{text}\ngive the site file on which its rows were made"),
+            FAULT,
+        ),
         None => exit_replay(rt, fault),
     }
 }

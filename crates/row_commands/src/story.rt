@@ -61,7 +61,10 @@ fn check_sold(rt: &impl Eprint, story: &SaleStory, sale: &SaleName) -> Result<()
         return Ok(());
     }
     let (point, shift, number) = (sale.point.get(), sale.shift.get(), sale.number.get());
-    Err(exit_with(eprintln!(rt; "no sale {point}/{shift}/{number}"), FAULT))
+    Err(exit_with(
+        eprintln!(rt; "no sale {point}/{shift}/{number}: forecourt sales lists them all"),
+        FAULT,
+    ))
 }
 
 /// Puts the rows of the story into the text.

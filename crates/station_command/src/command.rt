@@ -125,7 +125,10 @@ fn run_opened<
 {
     let house = match find_house(opened.station.book().config(), plans.house.house) {
         Ok(house) => house,
-        Err(number) => return exit_with(eprintln!(rt; "house {number}: no manager"), FAULT),
+        Err(number) => {
+            let advice = "name a till of its own among the managers of the site file";
+            return exit_with(eprintln!(rt; "house {number}: no manager\n{advice}"), FAULT);
+        }
     };
     let mut open = match open_doors(rt, options.doors) {
         Ok(open) => open,
@@ -169,7 +172,7 @@ fn run_opened<
 fn warn_of_no_doors(rt: &impl Eprint, folder: Option<&str>, doors: &Doors) {
     if let Some(folder) = folder {
         if doors.len() == 0 {
-            let _ = eprintln!(rt; "no doors in {folder}");
+            let _ = eprintln!(rt; "no doors in {folder}: each node may connect over TCP");
         }
     }
 }

@@ -276,8 +276,24 @@ fn exit_door(rt: &impl Eprint, folder: &str, fault: &DoorFault) -> ExitCode
     match fault {
         DoorFault::NoMemory => exit_no_memory(rt),
         DoorFault::Unread => exit_with(eprintln!(rt; "cannot read {folder}"), FAULT),
-        DoorFault::NoNode(name) => exit_with(eprintln!(rt; "door {name}: no node"), FAULT),
-        DoorFault::InUse(name) => exit_with(eprintln!(rt; "door {name}: in use"), FAULT),
-        DoorFault::Deaf(name) => exit_with(eprintln!(rt; "door {name}: cannot listen"), FAULT),
+        DoorFault::NoNode(name) => exit_with(
+            eprintln!(rt;
+                "door {name}: no node\n\
+                 rename the folder, as till-01, dispenser-01 or feed, or take it out"
+            ),
+            FAULT,
+        ),
+        DoorFault::InUse(name) => exit_with(
+            eprintln!(rt; "door {name}: in use\nstop the station that has these doors"),
+            FAULT,
+        ),
+        DoorFault::Deaf(name) => exit_with(
+            eprintln!(rt;
+                "door {name}: cannot listen\n\
+                 see that this user may write to the folder, that its path is short, and that \
+                 socket is nothing else there"
+            ),
+            FAULT,
+        ),
     }
 }

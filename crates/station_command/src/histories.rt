@@ -16,7 +16,7 @@ use crate::found::FoundHistory;
 use crate::station_site::{history_site, read_station_site};
 use chapters::site_name;
 use history_files::{FileFault, HistoryDisk, HistoryFolder};
-use history_folder::{FolderFault, exit_folder, exit_history, path_in};
+use history_folder::{FolderFault, exit_advised, exit_folder, exit_history, path_in};
 use journal::{OpenFault, Opened, StoredStation, open_journal};
 use program_io::{COMMAND_LINE, FAULT, exit_no_memory, exit_unwritten, exit_with};
 use site_base::SiteConfig;
@@ -169,7 +169,11 @@ pub fn exit_file(rt: &impl Eprint, name: &str, fault: FileFault) -> ExitCode
     match fault {
         FileFault::NoMemory => exit_no_memory(rt),
         FileFault::Unread => exit_with(eprintln!(rt; "cannot read {name}"), FAULT),
-        FileFault::InUse => exit_with(eprintln!(rt; "history in use"), FAULT),
+        FileFault::InUse => exit_advised(
+            rt,
+            "history in use",
+            "stop the station that has the folder, and print into none of its files",
+        ),
         FileFault::Untold => ExitCode::from(FAULT),
         FileFault::Unwritten => exit_unwritten(rt),
         FileFault::Missing(number) => exit_folder(rt, name, FolderFault::Missing(number)),

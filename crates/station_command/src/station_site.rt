@@ -7,7 +7,7 @@ ghost use Rattle.site_file.specs.SiteFile.{config_of};
 
 use crate::histories::{exit_file, path_of};
 use history_files::{FileFault, HistoryFolder};
-use history_folder::{SITE_FILE, site_in_folder};
+use history_folder::{SITE_FILE, exit_advised, exit_another_site, site_in_folder};
 use journal::LEAST_ROWS;
 use program_io::{FAULT, exit_with, read_site_file};
 use site_base::SiteConfig;
@@ -29,7 +29,11 @@ pub fn read_station_site<R: Files + Eprint + AllocGlobal>(
 {
     let (config, site_file) = read_site_file(rt, name)?;
     if has_few_rows(&config) {
-        return Err(exit_with(eprintln!(rt; "fault 74 rows"), FAULT));
+        return Err(exit_advised(
+            rt,
+            "fault 74 rows",
+            "rows is at least 1024 for a station: raise it in the site file, or leave it out",
+        ));
     }
     Ok((config, site_file))
 }
@@ -117,7 +121,10 @@ fn read_kept<R: Eprint + AllocGlobal>(rt: &R, octets: &[u8]) -> Result<SiteConfi
 {
     let config = site_in_folder(rt, octets)?;
     if has_few_rows(&config) {
-        return Err(exit_with(eprintln!(rt; "{SITE_FILE}: fault 74 rows"), FAULT));
+        return Err(exit_with(
+            eprintln!(rt; "{SITE_FILE}: fault 74 rows\nput it back from a backup"),
+            FAULT,
+        ));
     }
     Ok(config)
 }
@@ -131,6 +138,6 @@ fn check_same<R: Eprint>(rt: &R, config: &SiteConfig, given: &SiteConfig) -> Res
     if is_same_site(config, given) {
         Ok(())
     } else {
-        Err(exit_with(eprintln!(rt; "history of another site"), FAULT))
+        Err(exit_another_site(rt))
     }
 }
