@@ -68,6 +68,10 @@ pub struct StationServer {
     /// The day's end has come.
     pub(crate) has_ended: bool,
     pub(crate) swept_at: Instant,
+    /// It is time to sweep since so many rounds.
+    pub(crate) due_rounds: usize,
+    /// In this round it is swept.
+    pub(crate) is_sweep_due: bool,
     /// How long rows took to be stored.
     pub(crate) stores: StoreTimes,
     pub(crate) rounds: RoundClock,
@@ -197,7 +201,7 @@ impl StationServer {
         for _ in threads.forever() {
             let timeout = self.poll_timeout(connections, idle);
             self.hear_round(rt, connections, timeout)?;
-            self.hear_before_sweep(rt, connections)?;
+            self.note_round();
             if self.has_ended {
                 return Ok(());
             }
@@ -236,39 +240,33 @@ impl StationServer {
         }
     }
 
-    /// Where peers are about to be left that were waited for too long, first of all whoever is
-    /// ready has its turn: the wait may have been interrupted, or more are ready than a round looks
-    /// at.
-    #[tactic(auto, using(crate::proofs::Rounds::moved, crate::proofs::Rounds::heard))]
-    fn hear_before_sweep<R: Clock + Eprint, D: Disk>(
-        &mut self,
-        rt: &R,
-        connections: &mut Connections<D, PeerStream>,
-    ) -> Result<(), ServerFault>
-        ensures moves { ReachesBy IsHeard connections.old.stored connections.new.stored }
-        ensures due { StayDue connections.old.due connections.new.due }
-        ensures noted { KeepsChanges connections.old.changes connections.new.changes
-            connections.new.stored.station.book }
-    {
-        if !self.is_sweep_due() {
-            return Ok(());
-        }
-        for _ in 0..ROUNDS_BEFORE_A_SWEEP {
-            self.hear_round(rt, connections, Some(Duration::from_secs(0)))?;
-            if self.events.is_empty() {
-                return Ok(());
-            }
-        }
-        Ok(())
+    /// A round was heard. Once it is time to sweep, those who are ready are asked for without a
+    /// wait, round after round, and answered: peers are left that were waited for too long, so first
+    /// of all whoever is ready has its turn. It is swept where nobody is ready, or when everybody
+    /// has had a turn.
+    fn note_round(&mut self) {
+        let passed = self.rounds.waited().duration_since(self.swept_at);
+        let is_time = passed.as_secs() >= SWEEP_SECONDS;
+        let is_last = self.events.is_empty() || self.due_rounds >= ROUNDS_BEFORE_A_SWEEP;
+        self.is_sweep_due = is_time && self.due_rounds > 0 && is_last;
+        self.due_rounds = if is_time && !self.is_sweep_due {
+            self.due_rounds.saturating_add(1)
+        } else {
+            0
+        };
     }
 
     /// How long it waits for the next round: as long as it takes, until the next sweep, or until
-    /// sessions that were held back are read on, or those who look on have a turn.
+    /// sessions that were held back are read on, or those who look on have a turn. While it is time
+    /// to sweep it doesn't wait.
     fn poll_timeout<D: Disk>(
         &self,
         connections: &Connections<D, PeerStream>,
         idle: Option<u64>,
     ) -> Option<Duration> {
+        if self.due_rounds > 0 {
+            return Some(Duration::from_secs(0));
+        }
         let hold_left = connections.hold_left(self.rounds.waited());
         if let Some(left) = sooner(hold_left, self.onlookers_left(connections)) {
             return Some(left);
@@ -401,7 +399,7 @@ impl StationServer {
             connections.new.due }
     {
         connections.make_owed_due();
-        if self.is_sweep_due() {
+        if self.is_sweep_due {
             connections.make_full_due();
         }
     }
@@ -418,20 +416,15 @@ impl StationServer {
         ensures moves { Reaches connections.old.stored connections.new.stored }
         ensures stored { OnOk result (is_all_stored connections.new.stored ≡ true) }
     {
-        if !self.is_sweep_due() {
+        if !self.is_sweep_due {
             return Ok(());
         }
+        self.is_sweep_due = false;
         self.swept_at = self.rounds.waited();
         self.accept_again(rt, connections);
         connections.sweep(rt, idle, self.rounds.waited())?;
         self.store_rows(rt, connections)?;
         self.send_noted(rt, connections)
-    }
-
-    /// Is it time to sweep?
-    fn is_sweep_due(&self) -> bool {
-        let passed = self.rounds.waited().duration_since(self.swept_at);
-        passed.as_secs() >= SWEEP_SECONDS
     }
 }
 
@@ -495,6 +488,8 @@ fn listen<N: Net, C: Clock>(
         has_told: false,
         has_ended: false,
         swept_at: now,
+        due_rounds: 0,
+        is_sweep_due: false,
         stores: StoreTimes::new(),
         rounds: RoundClock::new(now),
         clock: StampClock::new(),

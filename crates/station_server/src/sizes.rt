@@ -11,5 +11,6 @@ pub const SWEEP_SECONDS: u64 = 1;
 /// seconds at most.
 pub const ROUND_SECONDS: u64 = 1;
 
-/// So many rounds are heard, at most, before a sweep.
+/// So many rounds are heard, at most, from the time of a sweep on until it is swept: in them
+/// everybody who was ready has a turn.
 pub const ROUNDS_BEFORE_A_SWEEP: usize = 16;
