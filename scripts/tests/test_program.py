@@ -11,11 +11,13 @@ import json
 import os
 import pty
 import re
+import signal
 import subprocess
 import sys
 
 from shared import random_words, station
 from shared.checks import NO_FILE, expect, expect_end, first_line
+from shared.histories import write_chapters, write_history, write_rows
 from shared.running import CRATES, EXAMPLES, PATIENCE, close_input, limit_memory, run
 from shared.station import FIVE_POINTS, KNOWN_SITE, LONGEST_LINE, SITES, SIXTY_FOUR_POINTS
 from tests.built import PROGRAM
@@ -27,6 +29,7 @@ MESSAGES, REPLIES = STORED.read_text().splitlines(), ANSWERS.read_bytes().splitl
 FIRST = MESSAGES[0].replace(" ", "")
 LEAST_MEMORY = 12_000 * 1024  # octets of addresses, too few for 200,000 replies or rows
 HERE = make_folder()
+CLOSED_PIPE = 128 + signal.SIGPIPE
 OWN_SITE = "give the site file on which its rows were made"
 
 
@@ -47,6 +50,36 @@ def expect_whole(folder, kind):
         {file.stem for file in folder.iterdir()} - cases,
         set(),
     )
+
+
+def expect_quiet(what, words, given=b""):
+    """A command whose output nobody reads ends as SIGPIPE ends others, and says nothing."""
+    gone, output = os.pipe()
+    os.close(gone)
+    how = {"input": given, "stdout": output, "stderr": subprocess.PIPE, "timeout": PATIENCE}
+    try:
+        end = subprocess.run([PROGRAM, *words], **how)
+    finally:
+        os.close(output)
+    expect(what, (end.returncode, end.stderr), (CLOSED_PIPE, b""))
+
+
+@test_each
+def closed_pipes():
+    """Whoever reads a command's output has closed the pipe."""
+    rows = STORED.read_bytes()
+    expect_quiet("no words", [], rows)
+    for words in (["replay"], ["report"], ["report", "--json"], ["sales"], ["meters"]):
+        expect_quiet(" ".join(words), [words[0], KNOWN_SITE, *words[1:]], rows)
+    expect_quiet("check", ["check", KNOWN_SITE])
+    expect_quiet("explain", ["explain"], rows)
+    expect_quiet("explain 20", ["explain", "20"])
+    expect_quiet("spell", ["spell"], b"t1 SignOn\n")
+    body = write_rows(station.sign_on(1), station.sign_off(1))
+    history = write_history(HERE / "history", KNOWN_SITE, *write_chapters(KNOWN_SITE, body))
+    for words in (["replay"], ["replay", "--json"], ["report"], ["sales"], ["meters"], ["explain"],
+                  ["explain", "--times"], ["shifts"], ["next"], ["verify"]):  # fmt: skip
+        expect_quiet(f"{words} of a history", [words[0], history, *words[1:]])
 
 
 @test_each

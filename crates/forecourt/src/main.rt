@@ -4,8 +4,10 @@
 //! their files, texts and exit statuses in `program_io`.
 #![tactic(auto)]
 
+mod quiet_host;
 mod version;
 
+use crate::quiet_host::QuietHost;
 use crate::version::build_lines;
 use ask_command::run_ask;
 use command_line::{Command, ExplainOptions, NoCommand, parse};
@@ -26,6 +28,7 @@ use std::io::{ErrorKind, IsTerminal, Stdin};
 use std::process::ExitCode;
 use std::sync::Wait;
 use std::thread::Threads;
+use unmarked_input::Unmarked;
 
 fn main(rt: HostRuntime) -> ExitCode {
     let words = match read_words(&rt) {
@@ -51,40 +54,43 @@ fn read_words(rt: &HostRuntime) -> Result<Vec<String>, ExitCode> {
     }
 }
 
-/// Runs this command. Only a server, a station and a demo start `threads`.
+/// Runs this command. Only a server, a station and a demo start `threads`. A command that prints
+/// what it reads ends quietly where the reader of its output has closed the pipe.
 fn run<T: Threads + Wait + Sync>(rt: &HostRuntime, threads: &T, command: Command<'_>) -> ExitCode {
-    let input = rt.stdin();
-    match command {
+    let (input, quiet) = (Unmarked::new(rt.stdin()), QuietHost::new(rt));
+    let host = &quiet;
+    let status = match command {
         Command::ReplayHere => {
-            say_what_it_waits_for(rt, &input);
-            run_replay_here(rt, input)
+            say_what_it_waits_for(rt, &rt.stdin());
+            run_replay_here(host, input)
         }
-        Command::Check(site) => run_check(rt, site),
-        Command::Replay(options) if is_folder(rt, options.site) => run_replay_folder(rt, options),
-        Command::Replay(options) => run_replay(rt, input, options),
-        Command::Report(options) if is_folder(rt, options.site) => run_report_folder(rt, options),
-        Command::Report(options) => run_report(rt, input, options),
-        Command::Sales(options) if is_folder(rt, options.site) => run_sales_folder(rt, options),
-        Command::Sales(options) => run_sales(rt, input, options),
-        Command::Meters(options) if is_folder(rt, options.site) => run_meters_folder(rt, options),
-        Command::Meters(options) => run_meters(rt, input, options),
+        Command::Check(site) => run_check(host, site),
+        Command::Replay(options) if is_folder(rt, options.site) => run_replay_folder(host, options),
+        Command::Replay(options) => run_replay(host, input, options),
+        Command::Report(options) if is_folder(rt, options.site) => run_report_folder(host, options),
+        Command::Report(options) => run_report(host, input, options),
+        Command::Sales(options) if is_folder(rt, options.site) => run_sales_folder(host, options),
+        Command::Sales(options) => run_sales(host, input, options),
+        Command::Meters(options) if is_folder(rt, options.site) => run_meters_folder(host, options),
+        Command::Meters(options) => run_meters(host, input, options),
         Command::Serve(options) => run_serve(rt, threads, options),
         Command::Station(options) => match rt.clone() {
-            Ok(errors) => run_station(rt, threads, input, errors, options),
+            Ok(errors) => run_station(rt, threads, rt.stdin(), errors, options),
             Err(_) => exit_no_memory(rt),
         },
         Command::Demo(options) => run_demo(rt, threads, options),
-        Command::Shifts(options) => run_shifts(rt, options.history, options.json),
-        Command::Next(history) => run_next(rt, history),
-        Command::Verify(options) => run_verify(rt, options),
-        Command::Story(options) => run_story(rt, options),
+        Command::Shifts(options) => run_shifts(host, options.history, options.json),
+        Command::Next(history) => run_next(host, history),
+        Command::Verify(options) => run_verify(host, options),
+        Command::Story(options) => run_story(host, options),
         Command::Explain(options) => match find_folder(rt, options) {
-            Some(folder) => run_explain_folder(rt, folder, options),
-            None => run_explain(rt, input, options),
+            Some(folder) => run_explain_folder(host, folder, options),
+            None => run_explain(host, input, options),
         },
-        Command::Spell => run_spell(rt, input),
+        Command::Spell => run_spell(host, input),
         Command::Ask(options) => run_ask(rt, input, options),
-    }
+    };
+    quiet.end(status)
 }
 
 /// Says at a terminal what the program waits for there, without a command.
