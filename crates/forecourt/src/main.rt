@@ -26,6 +26,7 @@ use std::io::{ErrorKind, IsTerminal, Stdin};
 use std::process::ExitCode;
 use std::sync::Wait;
 use std::thread::Threads;
+use unmarked_input::Unmarked;
 
 fn main(rt: HostRuntime) -> ExitCode {
     let words = match read_words(&rt) {
@@ -51,23 +52,24 @@ fn read_words(rt: &HostRuntime) -> Result<Vec<String>, ExitCode> {
     }
 }
 
-/// Runs this command. Only a server, a station and a demo start `threads`.
+/// Runs this command. Only a server, a station and a demo start `threads`. A byte order mark that
+/// the input begins with is dropped.
 fn run<T: Threads + Wait + Sync>(rt: &HostRuntime, threads: &T, command: Command<'_>) -> ExitCode {
     let input = rt.stdin();
     match command {
         Command::ReplayHere => {
             say_what_it_waits_for(rt, &input);
-            run_replay_here(rt, input)
+            run_replay_here(rt, Unmarked::new(input))
         }
         Command::Check(site) => run_check(rt, site),
         Command::Replay(options) if is_folder(rt, options.site) => run_replay_folder(rt, options),
-        Command::Replay(options) => run_replay(rt, input, options),
+        Command::Replay(options) => run_replay(rt, Unmarked::new(input), options),
         Command::Report(options) if is_folder(rt, options.site) => run_report_folder(rt, options),
-        Command::Report(options) => run_report(rt, input, options),
+        Command::Report(options) => run_report(rt, Unmarked::new(input), options),
         Command::Sales(options) if is_folder(rt, options.site) => run_sales_folder(rt, options),
-        Command::Sales(options) => run_sales(rt, input, options),
+        Command::Sales(options) => run_sales(rt, Unmarked::new(input), options),
         Command::Meters(options) if is_folder(rt, options.site) => run_meters_folder(rt, options),
-        Command::Meters(options) => run_meters(rt, input, options),
+        Command::Meters(options) => run_meters(rt, Unmarked::new(input), options),
         Command::Serve(options) => run_serve(rt, threads, options),
         Command::Station(options) => match rt.clone() {
             Ok(errors) => run_station(rt, threads, input, errors, options),
@@ -80,10 +82,10 @@ fn run<T: Threads + Wait + Sync>(rt: &HostRuntime, threads: &T, command: Command
         Command::Story(options) => run_story(rt, options),
         Command::Explain(options) => match find_folder(rt, options) {
             Some(folder) => run_explain_folder(rt, folder, options),
-            None => run_explain(rt, input, options),
+            None => run_explain(rt, Unmarked::new(input), options),
         },
-        Command::Spell => run_spell(rt, input),
-        Command::Ask(options) => run_ask(rt, input, options),
+        Command::Spell => run_spell(rt, Unmarked::new(input)),
+        Command::Ask(options) => run_ask(rt, Unmarked::new(input), options),
     }
 }
 
