@@ -560,6 +560,37 @@ def wrong_words():
         expect_end(f"spell: {line}", end, 1, b"", why)
 
 
+# What some editors write before a text.
+MARK = b"\xef\xbb\xbf"
+
+
+@test_each
+def marked_texts():
+    """One byte order mark before a text is dropped: of hexadecimal, of words, of a script. A second
+    one is refused, and so is a part of one."""
+    stored, script = STORED.read_bytes(), FOLDER / "demos/two_tills.demo"
+    for words in (
+        [], ["explain"], *([kind, KNOWN_SITE] for kind in ("replay", "report", "sales", "meters"))
+    ):
+        marked = forecourt(*words, given=MARK + stored)
+        expect(f"{words[:1]} of a marked text", marked, forecourt(*words, given=stored))
+    end = forecourt("spell", given=MARK + b"t1 SignOn\n")
+    expect_end("spell of a marked text", end, 0, f"{FIRST.lower()}\n".encode())
+    marked = HERE / "marked.demo"
+    marked.write_bytes(MARK + script.read_bytes())
+    end = forecourt("demo", FIVE_POINTS, marked)
+    expect_end("a marked script", end, 0, script.with_suffix(".report"))
+    for front in (MARK + MARK, MARK[:2]):
+        end = forecourt(given=front + stored)
+        expect_end(f"{front} before a text", end, 1, b"", "line 1: not hexadecimal")
+    end = forecourt("spell", given=MARK + MARK + b"t1 SignOn\n")
+    why = r'line 1: word 1 "\xef\xbb\xbft1": t1 to t32, or d1 to d64'
+    expect_end("spell of a text with two marks", end, 1, b"", why)
+    marked.write_bytes(MARK + MARK + script.read_bytes())
+    end = forecourt("demo", FIVE_POINTS, marked)
+    expect_end("a script with two marks", end, 1, b"", "script line 1")
+
+
 @test_each
 def random_events(seed):
     """Spelled events are explained in their words again; any text is spelled, or told a fault."""

@@ -16,6 +16,7 @@ use std::process::ExitCode;
 use std::rt::Files;
 use std::sync::Wait;
 use std::thread::Threads;
+use unmarked_input::skip_mark;
 
 /// Runs the demo of a script, and prints its report. The site file's faults come before the
 /// script's.
@@ -34,8 +35,8 @@ where
     }
 }
 
-/// The script of the file of this name, or how the program ends: the file can't be read, or has a
-/// faulty line.
+/// The script of the file of this name, without its byte order mark, or how the program ends: the
+/// file can't be read, or has a faulty line.
 fn read_demo_script<R: Files + Eprint + AllocGlobal>(
     rt: &R,
     name: &str,
@@ -43,7 +44,7 @@ fn read_demo_script<R: Files + Eprint + AllocGlobal>(
     ensures failed { IfErr result IsFailed }
 {
     let octets = read_file(rt, name)?;
-    match read_script(rt.alloc(), &octets) {
+    match read_script(rt.alloc(), skip_mark(&octets)) {
         Ok(script) => Ok(script),
         Err(ScriptFault::NoMemory) => Err(exit_no_memory(rt)),
         Err(fault) => Err(exit_fault(rt, fault, FAULT)),

@@ -54,8 +54,9 @@ fn read_words(rt: &HostRuntime) -> Result<Vec<String>, ExitCode> {
     }
 }
 
-/// Runs this command. Only a server, a station and a demo start `threads`. A command that prints
-/// what it reads ends quietly where the reader of its output has closed the pipe.
+/// Runs this command. Only a server, a station and a demo start `threads`. A byte order mark that
+/// the input begins with is dropped. If the reader of its output has closed the pipe, a command that
+/// prints what it reads ends quietly.
 fn run<T: Threads + Wait + Sync>(rt: &HostRuntime, threads: &T, command: Command<'_>) -> ExitCode {
     let (input, quiet) = (Unmarked::new(rt.stdin()), QuietHost::new(rt));
     let host = &quiet;
