@@ -7,7 +7,7 @@ use std::fmt::Display;
 use std::fs::{Metadata, OpenOptions};
 use std::io::{self, ErrorKind};
 use std::process::ExitCode;
-use std::rt::{Alloc, Files};
+use std::rt::Files;
 
 /// The status with which others end then: that of a program that SIGPIPE ends, 128 and 13.
 const CLOSED_PIPE: u8 = 141;
