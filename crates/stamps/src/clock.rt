@@ -21,8 +21,8 @@ impl StampClock {
         }
     }
 
-    /// Returns the current time, cut to milliseconds; None if the system's clock doesn't tell it, the
-    /// year doesn't have four digits, or memory runs out.
+    /// Returns the current time, cut to milliseconds; None if the system's clock doesn't tell it,
+    /// the year doesn't have four digits, or memory runs out.
     pub fn read<C: Clock>(&mut self, alloc: Global, clock: &C) -> Option<Stamp> {
         let now = SystemTime::now(clock).ok()?;
         let time = Timestamp::try_from(now).ok()?;

@@ -1,6 +1,6 @@
-//! `forecourt station [FILE] [--history FOLDER] [--port N] [--doors FOLDER] [--page N] [--feed N]
-//! [--idle SECONDS] [--rate N] [--house T] [--release-age SECONDS] [--lost SECONDS] [--detached]
-//! [--json]`.
+//! `forecourt station [FILE] [--history FOLDER] [--port N] [--doors FOLDER] [--page N]
+//! [--name TEXT] [--feed N] [--idle SECONDS] [--rate N] [--house T] [--release-age SECONDS]
+//! [--lost SECONDS] [--detached] [--json]`.
 
 ghost use Rattle.std.specs.Prelude.{◌≡◌};
 ghost use Rattle.station.specs.Gates.{open_gates};
