@@ -111,11 +111,11 @@ impl Buffer {
     }
 
     /// Adds a sale of point p in a shift, and returns its number there. The sale is payable if the
-    /// view names no till, and locked by the till that it names. Room for the sale has to be
-    /// reserved, fewer than `UNPAID_LIMIT` transactions of the point may be unpaid, the shift has
-    /// to have a next number, no sale of the point may be of a later shift, and the volumes of all
-    /// sales of the product have to fit in 64 bits with this one. No other transaction changes. The
-    /// cents are the view's: the buffer computes none. It takes no memory.
+    /// view names no till, and locked by the till that it names. The caller has reserved room for
+    /// the sale. Fewer than `UNPAID_LIMIT` transactions of the point are unpaid, the shift has a
+    /// next number, and no sale of the point is of a later shift. The volumes of all sales of the
+    /// product fit in 64 bits with this one. No other transaction changes. The cents are the
+    /// view's: the buffer computes none. It takes no memory.
     pub fn add(&mut self, p: FpNo, shift: ShiftNo, view: TransactionView) -> Seq
         requires room { 0 < room_at p self.old.rooms }
         requires unpaid { unpaid_at p self.old.sales < UNPAID_LIMIT }

@@ -1,4 +1,5 @@
-//! What is sold: a sale has the price of its start and what flowed since then, and never changes.
+//! What is sold: a sale has the price of its start and what flowed since then, and these figures
+//! never change.
 
 ghost use Rattle.written_site.specs.FuellingLaws.{ArePricedAtStart, AreSalesKept};
 ghost use Rattle.written_site.specs.RowWords.{OfEvents, OfBooks};
@@ -15,10 +16,10 @@ pub fn priced_at_start()
 {}
 
 /// For every list of events from the opening site of any configuration: after a row that sells, its
-/// sale never changes. Its volume is the millilitres that flowed since its fuelling started, its
-/// product that of the lifted nozzle, its price that of its start, its cents their amount, and it
-/// has the cents of the Prepay that released it, if one did. A clear of it is answered with exactly
-/// its cents. The same holds for every legal history.
+/// sale stays, and its figures never change. It has the millilitres that flowed since its fuelling
+/// started, the product of the lifted nozzle, the price of its start, and their amount in cents. If
+/// a Prepay released it, it also has the cents of that. A clear of it is answered with exactly its
+/// cents. The same holds for every legal history.
 pub fn sales_are_kept()
     ensures events { OfEvents AreSalesKept }
     ensures books { OfBooks AreSalesKept }
