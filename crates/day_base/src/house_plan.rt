@@ -10,15 +10,16 @@ use site_base::TILLS;
 /// The fewest seconds after which a release that nobody uses may end.
 pub const LEAST_RELEASE_SECONDS: u64 = 10;
 
+/// The most seconds after which such a release may end.
 pub const MOST_RELEASE_SECONDS: u64 = 3_600;
 
-/// Those seconds if the command line doesn't give them.
+/// The seconds after which such a release ends, unless the command line gives others.
 pub const USUAL_RELEASE_SECONDS: u64 = 120;
 
 /// The most seconds that a dispenser may be gone until it is lost.
 pub const MOST_LOST_SECONDS: u64 = 86_400;
 
-/// Those seconds if the command line doesn't give them.
+/// The seconds until a dispenser that is gone is lost, unless the command line gives others.
 pub const USUAL_LOST_SECONDS: u64 = 60;
 
 /// As which till a station acts by itself, and when.

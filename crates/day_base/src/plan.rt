@@ -29,7 +29,7 @@ pub const IDLE_SECONDS: u64 = 86_400;
 /// The most requests a second that a station may hear of a session.
 pub const GREATEST_RATE: u64 = 1_000_000;
 
-/// Those requests a second if the command line doesn't give them.
+/// The requests a second that a station hears of a session, unless the command line gives others.
 pub const USUAL_RATE: u64 = 1_000;
 
 /// The ports on which a station listens, how long a peer may be silent, and how much is heard.

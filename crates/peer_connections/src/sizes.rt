@@ -6,7 +6,7 @@ pub const FIRST_MESSAGE_SECONDS: u64 = 10;
 /// The milliseconds after which a session is read again that may not be read for now.
 pub const HOLD_MILLISECONDS: u64 = 100;
 
-/// The same for a session that has brought no whole message.
+/// The milliseconds after which such a session is read again if it has brought no whole message.
 pub const FIRST_HOLD_MILLISECONDS: u64 = 10;
 
 /// The seconds after which a session ends that is no longer read, because its peer takes nothing,

@@ -18,9 +18,9 @@ const MOST_OWED: usize = 16_384;
 const MOST_BODY: usize = 1_024;
 
 /// A connection of HTTP/1.1 as steps over octets. While it has no pending octets, and isn't over,
-/// it hears what the peer sends. Its pending octets are sent, and taken from it. Then it has to
-/// hear nothing once, to go on, because what it heard may have more requests. So a peer that asks
-/// without end never has much pending output. Contracts see its `history`.
+/// it hears what the peer sends. Its pending octets are sent, and taken from it. Then its caller
+/// lets it hear no octets once, because what it heard before may have more requests. So a peer that
+/// asks without end never has much pending output. Contracts see its `history`.
 #[derive(Drop)]
 pub struct PageConnection {
     connection: Connection,

@@ -55,7 +55,8 @@ pub fn holds_are_unended_takes()
     ensures { AreUnendedTakes }
 {}
 
-/// Both laws hold for the rows of every legal history, such as a book keeps.
+/// The laws of `held_by_one` and of `holds_are_unended_takes` hold for the rows of every legal
+/// history, such as a book keeps.
 pub fn books_held_by_one()
     ensures { AreBooksHeldByOne }
 {}
