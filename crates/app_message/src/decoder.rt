@@ -27,9 +27,9 @@ pub struct Fed {
     pub fault: Option<StreamFault>,
 }
 
-/// A stream of octets, read piece after piece. Messages follow each other without a further frame;
-/// the first fault ends the stream. A decoder keeps the octets of a message to come, at most 1,031,
-/// or the fault, and nothing else.
+/// A stream of octets, read piece after piece. Messages follow each other without a further frame,
+/// and the first fault ends the stream. A decoder keeps the octets of an unfinished message, at
+/// most 1,031, or the fault, and nothing else.
 #[derive(Drop)]
 pub struct Decoder {
     alloc: Global,
@@ -48,7 +48,7 @@ impl Model for Decoder {
 }
 
 impl Decoder {
-    /// A decoder at the start of a stream. It takes no memory.
+    /// Returns a decoder at the start of a stream. It takes no memory.
     pub fn new(alloc: Global) -> Decoder
         ensures { result ≡ held_after [] }
     {
@@ -59,7 +59,7 @@ impl Decoder {
         }
     }
 
-    /// Takes a piece of the stream, and gives the messages that end in it and the fault of the
+    /// Takes a piece of the stream. Returns the messages that end in it, and the fault of the
     /// stream, if it has one by now. After a fault there are no messages, and the fault stays the
     /// same. After `NoMemory` the piece isn't taken: the decoder is as before.
     pub fn feed(&mut self, piece: &[u8]) -> Result<Fed, NoMemory>
@@ -79,10 +79,9 @@ impl Decoder {
         Ok(Fed { messages, fault })
     }
 
-    /// Takes a piece of the stream as `feed` does, and answers the fault of the stream, if it has
-    /// one by now. The messages that end in the piece take the place of those in the list, whose
-    /// room serves again. After `NoMemory` the piece isn't taken, and what the list has means
-    /// nothing.
+    /// Takes a piece of the stream as `feed` does, and returns the fault of the stream, if it has
+    /// one by now. The messages that end in the piece replace those in the list, whose memory is
+    /// used again. After `NoMemory` the piece isn't taken, and what the list has means nothing.
     #[inline(always)]
     pub fn feed_into(
         &mut self,
@@ -114,7 +113,7 @@ impl Decoder {
         self.take(&octets, messages)
     }
 
-    /// Whether the next octet begins a message: nothing is held, and the stream has no fault.
+    /// Does the next octet begin a message? Then nothing is held, and the stream has no fault.
     #[inline(always)]
     pub fn is_between(&self) -> bool
         ensures { result ≡ true → self.now ≡ held_after [] }
@@ -122,16 +121,17 @@ impl Decoder {
         self.rest.is_empty() && self.fault.is_none()
     }
 
-    /// The fault of the stream, if it has one by now.
+    /// Returns the fault of the stream, if it has one by now.
     pub fn fault(&self) -> Option<StreamFault>
         ensures { result ≡ self.now.fault }
     {
         self.fault
     }
 
-    /// The message at the front of the octets that come next, where it lies, and the octets behind
-    /// it, which come next then. None where no message ends in them: they are held, or the stream
-    /// has ended with its `fault`. After `NoMemory` nothing is taken: the decoder is as before.
+    /// Reads the message at the front of the next octets, in place, and returns it with the octets
+    /// after it, which come next. Returns None if no message ends in the octets: they are held, or
+    /// the stream has ended with its `fault`. After `NoMemory` nothing is taken: the decoder is as
+    /// before.
     #[inline(always)]
     pub fn take_front<'a>(
         &mut self,
@@ -212,8 +212,8 @@ impl Decoder {
         self.fault = Some(fault);
     }
 
-    /// Whether the stream may end here: the stream's fault, if it has one; else `Truncated`, if it
-    /// ends inside a message. It takes no memory.
+    /// Checks that the stream may end here. Otherwise returns the stream's fault, if it has one, or
+    /// `Truncated` if it ends inside a message. It takes no memory.
     pub fn finish(&self) -> Result<(), MessageFault>
         ensures faulty { IfSome self.now.fault (λ f. result ≡ Err (as_message_fault f.fault)) }
         ensures truncated { self.now.fault ≡ None → self.now.rest ≢ []
@@ -230,8 +230,8 @@ impl Decoder {
         }
     }
 
-    /// The number of octets that are kept for a message to come: at most 1,031, and 0 after a
-    /// fault.
+    /// Returns the number of octets that are kept of an unfinished message: at most 1,031, and 0
+    /// after a fault.
     pub fn held(&self) -> u16
         ensures value { result ≡ length self.now.rest }
         ensures most { result < HEADER + LONGEST_BODY }

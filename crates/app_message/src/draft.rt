@@ -1,4 +1,4 @@
-//! A message in the making.
+//! A message that is being made.
 
 ghost use Rattle.std.specs.Prelude.{◌≡◌, ◌≢◌, ◌≤◌, ◌<◌, ◌⊎◌, [], ◌++◌, Some, None, length, IfOk};
 ghost use Rattle.std.specs.Prelude.{IfErr, OnOk};
@@ -22,8 +22,8 @@ use site_base::NoMemory;
 use std::alloc::{AllocError, Global};
 use std::marker::Model;
 
-/// A message in the making: its items are written behind each other, where the message keeps them,
-/// and judged when it is finished.
+/// A message that is being made. Its items are written one after another, in their final place, and
+/// are checked when it is finished.
 #[derive(Drop)]
 pub struct Draft {
     to: [u8; 2],
@@ -46,11 +46,10 @@ impl Model for Draft {
 }
 
 impl Draft {
-    /// A message without items: the recipient and the originator as subnet and node, and the
-    /// database address, which is copied, with room for so many octets of items (an item takes two
-    /// and its content), so that putting these is meant to take no memory. It is refused with
-    /// `BadLength` if the address is empty or above 8 octets; `NoMemory` comes where the allocator
-    /// refuses the room.
+    /// Begins a message without items: the recipient and the originator as subnet and node, and the
+    /// database address, which is copied. It has room for this many octets of items (an item takes
+    /// two and its content), so that putting these should take no memory. `BadLength` if the
+    /// address is empty or above 8 octets; `NoMemory` if the room can't be allocated.
     pub fn try_new(
         alloc: Global,
         to: [u8; 2],
@@ -85,11 +84,11 @@ impl Draft {
         })
     }
 
-    /// A message without items that goes back to the originator of another one: its recipient is
-    /// that originator, and its token and database address are that message's. It is written into
-    /// the buffer, whose content goes, with room for so many octets of items, so that a buffer that
-    /// served before is meant to take no memory. `NoMemory` comes where the allocator refuses the
-    /// room; the buffer is lost then.
+    /// Begins a message without items that goes back to the originator of another one: its
+    /// recipient is that originator, and its token and database address are that message's. It
+    /// replaces the content of the buffer, with room for this many octets of items, so that a
+    /// buffer that was used before should take no memory. `NoMemory` if the room can't be
+    /// allocated; then the buffer is lost.
     #[inline(always)]
     pub fn back(
         request: &SpelledMessage<'_>,
@@ -118,9 +117,8 @@ impl Draft {
         })
     }
 
-    /// Puts an item behind the others. It is refused with `BadItem` if its content has more than
-    /// 254 octets; `NoMemory` comes where there was no room and the allocator refuses it. A refused
-    /// item changes nothing.
+    /// Appends an item. `BadItem` if its content has more than 254 octets; `NoMemory` if there was
+    /// no room and none can be allocated. A refused item changes nothing.
     #[inline(always)]
     pub fn put(&mut self, id: u8, content: &[u8]) -> Result<(), MessageFault>
         ensures added { OnOk result (self.new ≡ with_item self.old (entry id content.now)) }
@@ -136,10 +134,10 @@ impl Draft {
         Ok(())
     }
 
-    /// The message, if it can be spelled. It is refused with `BadLength` if the address and the
-    /// items take more than 1,024 octets in all (each has one octet for its length, and an item one
-    /// for its identifier), else with `BadItem` if an identifier isn't above the one before it. It
-    /// takes no memory.
+    /// Returns the message, if it can be spelled. `BadLength` if the address and the items take
+    /// more than 1,024 octets in all (each has one octet for its length, and an item one for its
+    /// identifier); otherwise `BadItem` if an identifier isn't above the one before it. It takes no
+    /// memory.
     pub fn finish(self) -> Result<Message, MessageFault>
         ensures made { IfOk result (λ m. m ≡ self) }
         ensures accepted { OnOk result (IsMessage self) }
@@ -154,8 +152,8 @@ impl Draft {
         Ok(Message::of_body(self.to, self.from, self.kind, self.token, self.body))
     }
 
-    /// The message, where its parts are known to have no fault, so that they aren't judged. It
-    /// takes no memory.
+    /// Returns the message without a check, because its parts are known to have no fault. It takes
+    /// no memory.
     pub fn into_message(self) -> Message
         requires { parts_fault self.address self.items ≡ None }
         ensures { result ≡ self }

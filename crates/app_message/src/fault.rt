@@ -28,7 +28,7 @@ pub enum GrammarFault {
 }
 
 impl GrammarFault {
-    /// The number that a reply tells: 40 to 43.
+    /// Returns the number in a reply: 40 to 43.
     pub fn number(self) -> u8
         ensures { result ≡ grammar_number self }
     {
@@ -41,7 +41,7 @@ impl GrammarFault {
     }
 }
 
-/// The fault that ended a stream, and what the faulty header says of the way back.
+/// The fault that ended a stream, and where the faulty header came from.
 #[derive(Clone, Copy, Debug, PartialEq, Eq, Error)]
 #[error("{fault}")]
 pub struct StreamFault {
@@ -53,7 +53,8 @@ pub struct StreamFault {
     pub token: Token,
 }
 
-/// Why there is no message: a fault of the grammar, an end inside a message, or want of memory.
+/// Why there is no message: a fault of the grammar, an end inside a message, or that memory ran
+/// out.
 #[derive(Clone, Copy, Debug, PartialEq, Eq, Error)]
 pub enum MessageFault {
     /// The code octet isn't 00.
@@ -79,7 +80,7 @@ pub enum MessageFault {
 }
 
 impl MessageFault {
-    /// The number that a reply tells: 40 to 44, and 31 for want of memory.
+    /// Returns the number in a reply: 40 to 44, and 31 if memory ran out.
     pub fn number(self) -> u8
         ensures { result ≡ message_number self }
     {

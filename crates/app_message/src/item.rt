@@ -6,7 +6,7 @@ ghost use Rattle.app_message.specs.Telegram.{entry, IsEntry};
 
 use std::marker::Model;
 
-/// An item: a data identifier and its content, at most 254 octets, where they lie in a message.
+/// An item, read in place in a message: a data identifier and its content, at most 254 octets.
 #[derive(Debug, Drop)]
 pub struct Item<'a> {
     id: u8,
@@ -33,14 +33,14 @@ impl<'a> Item<'a> {
         Item { id, content }
     }
 
-    /// The data identifier.
+    /// Returns the data identifier.
     pub fn id(&self) -> u8
         ensures { result ≡ self.now.id }
     {
         self.id
     }
 
-    /// The content, at most 254 octets.
+    /// Returns the content, at most 254 octets.
     pub fn content(&self) -> &'a [u8]
         ensures value { result.now ≡ self.now.content }
         ensures bound { length result.now ≤ LONGEST_CONTENT }

@@ -7,8 +7,8 @@ ghost use Rattle.app_message.specs.Bodies.{entries_in, AreItems};
 use crate::item::Item;
 use std::marker::Model;
 
-/// The items of a message, or of one in the making, from one on, read where they lie. A contract
-/// sees them as a list.
+/// The items of a message, or of one that is being made, from some item on, read in place. A
+/// contract sees them as a list.
 #[derive(Drop)]
 pub struct Items<'a> {
     rest: &'a [u8],
@@ -35,7 +35,7 @@ impl<'a> Items<'a> {
         Items { rest: octets }
     }
 
-    /// Whether none is left.
+    /// Is no item left?
     pub fn is_empty(&self) -> bool
         ensures { result ≡ (length self.now == 0) }
     {

@@ -3,8 +3,8 @@
 ghost use Rattle.std.specs.Prelude.{◌≡◌, ◌<◌};
 ghost use Rattle.app_message.specs.Spelling.{kind_code};
 
-/// The kind of a message. Its code stands in the top three bits of the status octet; the codes 5
-/// and 6 mean no kind.
+/// The kind of a message. Its code is in the top three bits of the status octet. The codes 5 and 6
+/// mean no kind.
 #[derive(Clone, Copy, Debug, PartialEq, Eq)]
 pub enum Kind {
     /// A question, code 0.
@@ -22,7 +22,7 @@ pub enum Kind {
 }
 
 impl Kind {
-    /// The code of the kind, below 8.
+    /// Returns the code of the kind, below 8.
     pub fn code(self) -> u8
         ensures value { result ≡ kind_code self }
         ensures range { result < 8 }

@@ -1,8 +1,8 @@
-//! Application messages: octets to messages, and messages to octets.
+//! Application messages: from octets to messages, and from messages to octets.
 //!
 //! A `Message` is valid by its type: it is exactly what can be spelled. `encode` writes its one
-//! spelling. A `Decoder` takes a stream in any pieces, and gives the messages in it, up to the
-//! first fault; what it gives doesn't depend on how the stream was cut.
+//! spelling. A `Decoder` takes a stream in any pieces, and returns the messages in it, up to the
+//! first fault. What it returns doesn't depend on how the stream was cut.
 //!
 //! Worked messages, faults and parts, by their octets, are theorems of the definitions that the
 //! contracts cite: `proofs/WorkedMessages.antt`.

@@ -23,7 +23,7 @@ use std::marker::Model;
 
 /// A message: exactly what can be spelled. Its address has 1 to 8 octets, the identifiers of its
 /// items strictly rise, each content has at most 254 octets, and the address and the items take 2
-/// to 1,024 octets in all. Address and items lie in one place, as they are spelled.
+/// to 1,024 octets in all. Address and items are in one place, as they are spelled.
 #[derive(Debug, Drop)]
 pub struct Message {
     to: [u8; 2],
@@ -46,14 +46,13 @@ impl Model for Message {
 }
 
 impl Message {
-    /// A message of these parts, which are copied: the recipient and the originator as subnet and
-    /// node, the database address, and the items as pairs of identifier and content.
+    /// Makes a message of these parts, which are copied: the recipient and the originator as subnet
+    /// and node, the database address, and the items as pairs of identifier and content.
     ///
-    /// It is refused with `BadLength` if the address is empty or above 8 octets, or if the address
-    /// and the items take more than 1,024 octets in all (each of them has one octet for its length,
-    /// and an item one for its identifier); else with `BadItem` if an identifier isn't above the
-    /// one before it, or a content has more than 254 octets. `NoMemory` comes where the allocator
-    /// refuses a copy.
+    /// `BadLength` if the address is empty or above 8 octets, or if the address and the items take
+    /// more than 1,024 octets in all (each of them has one octet for its length, and an item one
+    /// for its identifier). Otherwise `BadItem` if an identifier isn't above the one before it, or
+    /// a content has more than 254 octets. `NoMemory` if a copy can't be allocated.
     pub fn try_new(
         alloc: Global,
         to: [u8; 2],
@@ -129,35 +128,35 @@ impl Message {
         Ok(())
     }
 
-    /// The recipient, as subnet and node.
+    /// Returns the recipient, as subnet and node.
     pub fn to(&self) -> [u8; 2]
         ensures { result ≡ self.now.to }
     {
         self.to
     }
 
-    /// The originator, as subnet and node.
+    /// Returns the originator, as subnet and node.
     pub fn from(&self) -> [u8; 2]
         ensures { result ≡ self.now.from }
     {
         self.from
     }
 
-    /// What the message is for.
+    /// Returns what the message is for.
     pub fn kind(&self) -> Kind
         ensures { result ≡ self.now.kind }
     {
         self.kind
     }
 
-    /// The number that a reply repeats.
+    /// Returns the number that a reply repeats.
     pub fn token(&self) -> Token
         ensures { result ≡ self.now.token }
     {
         self.token
     }
 
-    /// The database address, 1 to 8 octets.
+    /// Returns the database address, 1 to 8 octets.
     pub fn address(&self) -> &[u8]
         ensures value { result.now ≡ self.now.address }
         ensures least { 1 ≤ length result.now }
@@ -166,7 +165,7 @@ impl Message {
         self.as_spelled().address()
     }
 
-    /// The items, in strictly rising order of their identifiers.
+    /// Returns the items, in strictly rising order of their identifiers.
     pub fn items(&self) -> Items<'_>
         ensures value { result ≡ self.now.items }
         ensures valid { IsMessage self.now }
@@ -174,7 +173,7 @@ impl Message {
         self.as_spelled().items()
     }
 
-    /// The message, where it lies.
+    /// Returns the message as one that is read in place.
     pub fn as_spelled(&self) -> SpelledMessage<'_>
         ensures { result ≡ self.now }
     {
@@ -188,7 +187,7 @@ impl Message {
         SpelledMessage::new(head, &self.body)
     }
 
-    /// Whether the two messages are the same.
+    /// Are the two messages the same?
     pub fn is(&self, other: &Message) -> bool
         ensures same { result ≡ true → self.now ≡ other.now }
         ensures other { result ≡ false → self.now ≢ other.now }
@@ -200,14 +199,14 @@ impl Message {
             && self.body == other.body
     }
 
-    /// The room that the message has, for another one. Its octets mean nothing any more. It takes
-    /// no memory.
+    /// Returns the memory of the message, for another one. Its octets mean nothing any more. It
+    /// takes no memory.
     pub fn into_buffer(self) -> Vec<u8> {
         self.body
     }
 
-    /// The first eight octets of its spelling: recipient, originator, code 00, kind and token, the
-    /// number of octets of the body.
+    /// Returns the first eight octets of its spelling: recipient, originator, code 00, kind and
+    /// token, and the number of octets of the body.
     pub fn head(&self) -> [u8; 8]
         ensures { result ≡ head_text self.now (length (body self.now)) }
     {
@@ -217,8 +216,8 @@ impl Message {
         [to[0], to[1], from[0], from[1], 0, status, high, low]
     }
 
-    /// The rest of its spelling, the body: the address behind the number of its octets, and the
-    /// items.
+    /// Returns the rest of its spelling, the body: the number of the address's octets, the address,
+    /// and the items.
     pub fn body(&self) -> &[u8]
         ensures text { result.now ≡ body self.now }
         ensures most { length result.now ≤ LONGEST_BODY }

@@ -8,8 +8,8 @@ use site_base::NoMemory;
 use std::alloc::Global;
 use std::marker::Model;
 
-/// Messages in their order. A contract sees them as a list. Behind them lie messages that were
-/// cleared, since their room serves again.
+/// Messages in their order. A contract sees them as a list. After them there are cleared messages,
+/// whose memory is used again.
 #[derive(Debug, Drop)]
 pub struct Messages {
     items: Vec<Message>,
@@ -29,7 +29,7 @@ impl Model for Messages {
 }
 
 impl Messages {
-    /// No messages. It takes no memory.
+    /// Returns no messages. It takes no memory.
     pub fn new(alloc: Global) -> Messages
         ensures { result ≡ [] }
     {
@@ -39,7 +39,7 @@ impl Messages {
         }
     }
 
-    /// These messages. It takes no memory.
+    /// Returns these messages. It takes no memory.
     pub fn from_vec(items: Vec<Message>) -> Messages
         ensures { result ≡ items.items }
     {
@@ -47,7 +47,7 @@ impl Messages {
         Messages { items, len }
     }
 
-    /// The messages as a `Vec`. It takes no memory.
+    /// Returns the messages as a `Vec`. It takes no memory.
     pub fn into_vec(self) -> Vec<Message>
         ensures { result.items ≡ self }
     {
@@ -56,7 +56,7 @@ impl Messages {
         items
     }
 
-    /// Clears the list. The room of its messages serves those that come next.
+    /// Clears the list. The memory of its messages is used for the next ones.
     pub fn clear(&mut self)
         ensures { self.new ≡ [] }
     {
@@ -82,21 +82,21 @@ impl Messages {
         Ok(())
     }
 
-    /// The messages as a slice.
+    /// Returns the messages as a slice.
     pub fn as_slice(&self) -> &[Message]
         ensures { result.now ≡ self.now }
     {
         &self.items[..self.len]
     }
 
-    /// The number of messages.
+    /// Returns the number of messages.
     pub fn len(&self) -> usize
         ensures { result ≡ length self.now }
     {
         self.len
     }
 
-    /// Whether there are none.
+    /// Are there no messages?
     pub fn is_empty(&self) -> bool
         ensures { result ≡ (length self.now == 0) }
     {

@@ -1,4 +1,4 @@
-//! Whether a message can be made of its parts.
+//! Checks whether a message can be made of its parts.
 
 ghost use Rattle.std.specs.Prelude.{◌≡◌, ◌≤◌, ◌<◌, ◌⊎◌, List, length, take, drop, slice_index};
 ghost use Rattle.std.specs.Prelude.{nat_le};
@@ -12,7 +12,7 @@ use crate::fault::MessageFault;
 use crate::sizes::{LONGEST_ADDRESS, LONGEST_BODY, LONGEST_CONTENT};
 use crate::token::Token;
 
-/// Answers the first fault of these parts, if they have one.
+/// Checks these parts, and returns their first fault, if they have one.
 #[tactic(auto, unfolding(crate::specs::Parts::parts_fault))]
 pub fn check(address: &[u8], items: &[(u8, &[u8])]) -> Result<(), MessageFault>
     ensures ok { OnOk result (parts_fault address.now (entries items.now) ≡ None) }
@@ -28,7 +28,7 @@ pub fn check(address: &[u8], items: &[(u8, &[u8])]) -> Result<(), MessageFault>
     Ok(())
 }
 
-/// Answers the fault of an address that is empty or above 8 octets.
+/// Checks that an address isn't empty or above 8 octets.
 #[tactic(auto, unfolding(crate::specs::Parts::parts_fault))]
 pub fn check_address(address: &[u8]) -> Result<(), MessageFault>
     ensures least { OnOk result (1 ≤ length address.now) }
@@ -80,7 +80,7 @@ fn rise(items: &[(u8, &[u8])]) -> bool
     true
 }
 
-/// The address and the items in the octets of a body.
+/// Returns the address and the items in the octets of a body.
 pub fn split(body: &[u8]) -> (&[u8], &[u8])
     requires { slice_index body.now 0 < length body.now }
     ensures address { result.0.now ≡ take (slice_index body.now 0) (drop 1 body.now) }
@@ -89,7 +89,7 @@ pub fn split(body: &[u8]) -> (&[u8], &[u8])
     body[1..].split_at(usize::from(body[0]))
 }
 
-/// What the types of these parts say of them: two octets each, and a token of five bits.
+/// States what the types of these parts say: two octets each, and a token of five bits.
 pub fn know_types(to: &[u8; 2], from: &[u8; 2], token: Token)
     ensures { IsHead to.now from.now token }
 {

@@ -1,4 +1,4 @@
-//! One message from the front of octets, stage after stage.
+//! Reads one message from the front of octets, in stages.
 
 ghost use Rattle.std.specs.Prelude.{◌≡◌, ◌+◌, ◌*◌, ◌%◌, ◌≤◌, ◌<◌, length, slice_index};
 ghost use Rattle.std.specs.Prelude.{IfOk, OnOk};
@@ -156,7 +156,7 @@ fn body_of(head: Head, octets: &[u8]) -> Result<SpelledMessage<'_>, Stop>
     Ok(SpelledMessage::new(head, octets))
 }
 
-/// The message at the front, where it lies, and the octets after it.
+/// Reads the message at the front, in place, and returns it with the octets after it.
 #[tactic(auto, unfolding(crate::specs::Grammar::front_at))]
 pub fn front(octets: &[u8]) -> Result<(SpelledMessage<'_>, &[u8]), Stop>
     ensures exact { Gives (λ x. (x.0, x.1.now)) result (front_at octets.now) }

@@ -1,4 +1,4 @@
-//! A message where it lies.
+//! A message that is read in place.
 
 ghost use Rattle.std.specs.Prelude.{◌≡◌, ◌≤◌, ◌∷◌, length, IfOk, OnOk, OnErr};
 ghost use Rattle.app_message.specs.declared.sizes.TheConstants.{LONGEST_ADDRESS};
@@ -15,8 +15,8 @@ use site_base::NoMemory;
 use std::alloc::Global;
 use std::marker::Model;
 
-/// A message where it lies: its head, and its body in the octets that it was read from. It is as
-/// valid as a `Message`.
+/// A message that is read in place: its head, and its body in the octets from which it was read. It
+/// is as valid as a `Message`.
 #[derive(Drop)]
 pub struct SpelledMessage<'a> {
     head: Head,
@@ -63,35 +63,35 @@ impl<'a> SpelledMessage<'a> {
         place.set(head, body)
     }
 
-    /// The recipient, as subnet and node.
+    /// Returns the recipient, as subnet and node.
     pub fn to(&self) -> [u8; 2]
         ensures { result ≡ self.now.to }
     {
         self.head.to
     }
 
-    /// The originator, as subnet and node.
+    /// Returns the originator, as subnet and node.
     pub fn from(&self) -> [u8; 2]
         ensures { result ≡ self.now.from }
     {
         self.head.from
     }
 
-    /// What the message is for.
+    /// Returns what the message is for.
     pub fn kind(&self) -> Kind
         ensures { result ≡ self.now.kind }
     {
         self.head.kind
     }
 
-    /// The number that a reply repeats.
+    /// Returns the number that a reply repeats.
     pub fn token(&self) -> Token
         ensures { result ≡ self.now.token }
     {
         self.head.token
     }
 
-    /// The database address, 1 to 8 octets.
+    /// Returns the database address, 1 to 8 octets.
     pub fn address(&self) -> &'a [u8]
         ensures value { result.now ≡ self.now.address }
         ensures least { 1 ≤ length result.now }
@@ -100,7 +100,7 @@ impl<'a> SpelledMessage<'a> {
         parts::split(self.body).0
     }
 
-    /// The items, in strictly rising order of their identifiers.
+    /// Returns the items, in strictly rising order of their identifiers.
     pub fn items(&self) -> Items<'a>
         ensures value { result ≡ self.now.items }
         ensures valid { IsMessage self.now }

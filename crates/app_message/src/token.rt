@@ -23,7 +23,7 @@ impl Model for Token {
 }
 
 impl Token {
-    /// The token of this number, or `None` above 31.
+    /// Returns the token of this number, or `None` above 31.
     pub fn new(number: u8) -> Option<Token>
         ensures { SomeIff result (number < 32) number }
     {
@@ -43,7 +43,7 @@ impl Token {
         }
     }
 
-    /// The number.
+    /// Returns the number.
     pub fn get(self) -> u8
         ensures value { result ≡ self }
         ensures range { result < 32 }

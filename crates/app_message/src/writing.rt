@@ -9,7 +9,7 @@ use crate::sizes::HEADER;
 use site_base::NoMemory;
 use std::alloc::Global;
 
-/// The one spelling of the message. The only failure is want of memory.
+/// Returns the one spelling of the message. The only error is that memory runs out.
 pub fn encode(alloc: Global, message: &Message) -> Result<Vec<u8>, NoMemory>
     ensures { IfOk result (λ v. v.items ≡ spelling message.now) }
 {
@@ -18,8 +18,8 @@ pub fn encode(alloc: Global, message: &Message) -> Result<Vec<u8>, NoMemory>
     Ok(out)
 }
 
-/// Puts the one spelling of the message in place of what the buffer holds. `NoMemory` comes where
-/// the allocator refuses room for it; the buffer is empty then.
+/// Replaces what the buffer holds by the one spelling of the message. After `NoMemory` the buffer
+/// is empty.
 pub fn encode_into(message: &Message, out: &mut Vec<u8>) -> Result<(), NoMemory>
     ensures ok { OnOk result (out.new.items ≡ spelling message.now) }
     ensures most { length out.new.items ≤ HEADER + LONGEST_BODY }

@@ -1,4 +1,4 @@
-//! A conversation with a station: a line is asked, and its reply waited for.
+//! A conversation with a station: sends the request of a line, and waits for its reply.
 
 use crate::lines::Lines;
 use crate::run::REPLY_SECONDS;

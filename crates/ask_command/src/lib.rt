@@ -1,4 +1,4 @@
-//! `forecourt ask`: requests in words, asked of a station that runs, and its replies in words.
+//! `forecourt ask`: sends requests to a running station, and prints its replies, both in words.
 #![tactic(auto)]
 
 mod asking;

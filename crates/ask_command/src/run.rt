@@ -14,7 +14,7 @@ use std::time::Duration;
 /// A reply is waited for so many seconds.
 pub(crate) const REPLY_SECONDS: u64 = 30;
 
-/// Asks a station for what this input says in words, over TCP or at a door.
+/// Sends a station the requests that this input has in words, over TCP or at a door.
 pub fn run_ask<
     R: Files + Net<Listener = TcpListener, Stream = TcpStream> + Print + Eprint + AllocGlobal,
     I: Read + Drop,

@@ -1,4 +1,4 @@
-//! The lines that a chapter begins with.
+//! The lines at the beginning of a chapter.
 
 ghost use Rattle.std.specs.Prelude.{◌≡◌, ◌++◌, ◌∷◌, ◌≤◌, [], IfErr, IfOk, OnOk, false, length};
 ghost use Rattle.std.specs.Prelude.{string_bytes, true};
@@ -11,7 +11,8 @@ use sha2::{Digest, Sha256};
 use site_base::NoMemory;
 use std::alloc::Global;
 
-/// What names the site of a site file: the SHA-256 of its octets, in lower case hexadecimal.
+/// Returns the name of the site of a site file: the SHA-256 of its octets, in lower case
+/// hexadecimal.
 pub fn site_name(alloc: Global, site_file: &[u8]) -> Result<String, NoMemory>
     ensures { IfOk result (λ name. string_bytes name ≡ site_name site_file.now) }
 {

@@ -19,10 +19,10 @@ use stamps::{Stamp, time_after};
 use std::alloc::Global;
 use std::marker::Model;
 
-/// A history has so many chapters at most: the names of their files have six digits.
+/// The most chapters of a history: the names of their files have six digits.
 pub const MOST_CHAPTERS: u64 = 999_999;
 
-/// A seal stands behind so many lines of rows at most.
+/// The most lines of rows without a seal between them.
 pub const SEAL_ROWS: u64 = 256;
 
 /// What a seal's line begins with.
@@ -31,8 +31,8 @@ pub(crate) const SEAL_MARK: &[u8] = b"# seal ";
 /// What stands for a seal before the first chapter.
 const NO_SEAL: &str = "0000000000000000000000000000000000000000000000000000000000000000";
 
-/// Where the text of a history ends: how many chapters it has, its last seal, and what the next one
-/// covers.
+/// Where the text of a history ends: the number of its chapters, its last seal, and what the next
+/// seal covers.
 #[derive(Drop)]
 pub struct HistoryEnd {
     chapters: u64,
@@ -72,7 +72,7 @@ impl Model for HistoryEnd {
 }
 
 impl HistoryEnd {
-    /// The end of a history without chapters.
+    /// Returns the end of a history without chapters.
     pub fn new(alloc: Global) -> Result<HistoryEnd, NoMemory>
         ensures ends { IfOk result (EndsAt 0 no_seal []) }
         ensures time { IfOk result (λ end. end.time ≡ None) }
@@ -92,7 +92,7 @@ impl HistoryEnd {
         })
     }
 
-    /// So many chapters there are.
+    /// Returns the number of chapters.
     pub fn chapters(&self) -> u64
         ensures count { result ≡ self.now.chapters }
         ensures most { result ≤ MOST_CHAPTERS }
@@ -100,7 +100,7 @@ impl HistoryEnd {
         self.chapters
     }
 
-    /// Is the last line a seal, or is there none?
+    /// Is the last line a seal, or is there no line?
     pub fn is_sealed(&self) -> bool
         ensures { result ≡ self.now.sealed }
     {
@@ -114,35 +114,35 @@ impl HistoryEnd {
         self.rows
     }
 
-    /// The last time that was told, if one was.
+    /// Returns the last time, if there is one.
     pub fn time(&self) -> Option<Stamp>
         ensures { result ≡ self.now.time }
     {
         self.time
     }
 
-    /// The time of the open shift's first row, if it has one and its time is known.
+    /// Returns the time of the open shift's first row, if it has one and its time is known.
     pub fn open_since(&self) -> Option<Stamp>
         ensures { result ≡ open_since self.now.first }
     {
         open_since(self.first)
     }
 
-    /// So many seals there are.
+    /// Returns the number of seals.
     pub fn seals(&self) -> u64
         ensures { result ≡ self.now.seals }
     {
         self.seals
     }
 
-    /// The last seal; 64 zeros where there is none.
+    /// Returns the last seal; 64 zeros if there is none.
     pub fn last_seal(&self) -> &str
         ensures { result.now ≡ self.now.seal }
     {
         self.seal.as_str()
     }
 
-    /// The first lines of the next chapter, of the site of this name.
+    /// Returns the first lines of the next chapter, for the site of this name.
     pub fn next_lines(&self, alloc: Global, site: &str) -> Result<String, NoMemory>
         ensures { IfOk result (λ text. string_bytes text
             ≡ text_of_lines (first_lines site.now (self.now.chapters + 1) self.now.seal)) }
@@ -154,7 +154,7 @@ impl HistoryEnd {
         Ok(text)
     }
 
-    /// The next chapter is begun, with these octets: its first lines.
+    /// Begins the next chapter with these octets, which are its first lines.
     pub fn begin_chapter(&mut self, octets: &[u8])
         requires most { self.old.chapters < MOST_CHAPTERS }
         requires sealed { self.old.sealed ≡ true }
@@ -254,7 +254,7 @@ impl HistoryEnd {
         Ok(is_same(&seal, line))
     }
 
-    /// The line of the next seal, with its line feed. Behind it there is nothing yet.
+    /// Returns the line of the next seal, with its line feed. After it the seal covers nothing yet.
     pub fn seal_text(&mut self, alloc: Global) -> Result<Vec<u8>, NoMemory>
         ensures line { IfOk result (λ line. (chapters : ℕ) (seal : List ℕ)
             (unsealed : List (List ℕ)) → EndsAt chapters seal unsealed self.old

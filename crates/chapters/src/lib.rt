@@ -1,6 +1,5 @@
-//! A history as chapters: the lines of their rows, the lines that name a chapter, its times and its
-//! seals; what is read of them; and the laws that they tell the history, and that its seals bind
-//! it.
+//! A history as chapters: the lines of its rows, the lines that name a chapter, its times and its
+//! seals; how they are read; and the laws that chapters tell the history, and that seals bind it.
 #![tactic(auto)]
 
 mod chapter_begin;

@@ -1,4 +1,4 @@
-//! The first row of the shift that is open.
+//! The first row of the open shift.
 
 ghost use Rattle.std.specs.Prelude.{◌≡◌};
 ghost use Rattle.written_site.specs.RowWords.{closes_shift};

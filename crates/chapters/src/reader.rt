@@ -31,14 +31,15 @@ use site_book::{SiteBook, UnpaidSales};
 use std::alloc::Global;
 use std::marker::Model;
 
-/// So many rows are in memory at most before more are read, where the site file allows them: they
-/// take 4 MiB, and 7 MiB where each tells what was drawn of a product.
+/// The most rows in memory before more are read, if the site file allows that many. They take 4
+/// MiB, or 7 MiB if each row tells what was drawn of a product.
 pub const ROWS_IN_MEMORY: usize = 65_536;
 
 /// So many lines name a chapter, before those of its rows.
 const FIRST_LINES: u64 = 3;
 
-/// A history, as far as it is read: the book of its rows, what may be unpaid, and where it ends.
+/// A history as far as it is read: the book of its rows, the transactions that may be unpaid, and
+/// where it ends.
 #[derive(Drop)]
 pub struct HistoryReader {
     alloc: Global,
@@ -75,12 +76,12 @@ impl Model for HistoryReader {
     ghost invariant = { λ r. GoesBy r.unpaid r.book };
 }
 
-/// The next row of a chapter, and where it stands.
+/// The next row of a chapter, and how far the text was read for it.
 #[derive(Clone, Copy, Debug, PartialEq, Eq)]
 pub struct RowRead {
-    /// The row. None where no line is left.
+    /// The row; None if no line is left.
     pub row: Option<Row>,
-    /// So many octets were read: whole lines.
+    /// The number of octets that were read: whole lines.
     pub octets: usize,
 }
 
@@ -89,18 +90,18 @@ pub struct RowRead {
 pub struct ReadHistory {
     /// The name of its site.
     pub site: String,
-    /// The book of its rows, made again; it may have forgotten them.
+    /// The book of its rows, restored. It may have forgotten them.
     pub book: SiteBook,
     /// Those of its transactions that may be unpaid.
     pub unpaid: UnpaidSales,
-    /// Where it ends, its torn last line left out.
+    /// Where it ends, without its torn last line.
     pub end: HistoryEnd,
     /// Where its last chapter began.
     pub begin: ChapterBegin,
 }
 
 impl HistoryReader {
-    /// A reader of the history of this site, of which nothing is read yet.
+    /// Returns a reader of the history of this site, which has read nothing yet.
     pub fn open(alloc: Global, config: &SiteConfig, site: String) -> Result<HistoryReader, NoMemory>
         ensures site { IfOk result (λ r. r.site ≡ string_bytes site) }
         ensures config { IfOk result (λ r. r.book.config ≡ config.now) }
@@ -121,14 +122,14 @@ impl HistoryReader {
         })
     }
 
-    /// So many chapters were read.
+    /// Returns the number of chapters that were read.
     pub fn chapters(&self) -> u64
         ensures { result ≡ self.now.end.chapters }
     {
         self.end.chapters()
     }
 
-    /// The first lines of the next chapter.
+    /// Returns the first lines of the next chapter.
     pub fn next_lines(&self) -> Result<String, NoMemory>
         ensures { IfOk result (λ text. string_bytes text ≡ text_of_lines
             (first_lines self.now.site (self.now.end.chapters + 1) self.now.end.seal)) }
@@ -136,24 +137,24 @@ impl HistoryReader {
         self.end.next_lines(self.alloc, self.site.as_str())
     }
 
-    /// The book of the rows that are read.
+    /// Returns the book of the rows that were read.
     pub fn book(&self) -> &SiteBook
         ensures { result.now ≡ self.now.book }
     {
         &self.book
     }
 
-    /// Where the text ends that is read: its last time, its seals.
+    /// Returns where the text that was read ends, with its last time and its seals.
     pub fn end(&self) -> &HistoryEnd
         ensures { result.now ≡ self.now.end }
     {
         &self.end
     }
 
-    /// Reads the text of the next chapter. It says how many of its octets are whole lines.
+    /// Reads the text of the next chapter. Returns how many of its octets are whole lines.
     ///
-    /// `NotAfter` comes where the chapters before don't end with a seal, or this one's third line
-    /// doesn't name their last one, and `Line` names the first line that is wrong.
+    /// `NotAfter` means that the chapters before it don't end with a seal, or that its third line
+    /// doesn't name their last seal. `Line` names the first line that is wrong.
     pub fn read_chapter(&mut self, text: &[u8]) -> Result<usize, HistoryFault>
         requires { self.old.end.chapters < MOST_CHAPTERS }
         ensures read { IfOk result (λ whole. (texts : List (List ℕ)) → HasRead texts self.old
@@ -187,11 +188,11 @@ impl HistoryReader {
         Ok(text.len() - rest.len())
     }
 
-    /// Begins the next chapter, which has this text, and reads the lines that name it. It says how
-    /// many octets they have. Its rows come by `next_row`.
+    /// Begins the next chapter, which has this text, and reads the lines that name it. Returns the
+    /// number of their octets. `next_row` reads its rows.
     ///
-    /// `NotAfter` comes where the chapters before don't end with a seal, or this one's third line
-    /// doesn't name their last one, and `Line` names the first line that is wrong.
+    /// `NotAfter` means that the chapters before it don't end with a seal, or that its third line
+    /// doesn't name their last seal. `Line` names the first line that is wrong.
     pub fn begin_chapter(&mut self, text: &[u8]) -> Result<usize, HistoryFault>
         requires { self.old.end.chapters < MOST_CHAPTERS }
         ensures begun { IfOk result (λ octets. (texts : List (List ℕ)) → HasRead texts self.old
@@ -227,8 +228,8 @@ impl HistoryReader {
         Ok(octets.len())
     }
 
-    /// Reads what is left of a chapter's text up to its next row, which the book then has. Behind
-    /// the last row it reads the other lines.
+    /// Reads the rest of a chapter's text up to its next row, and puts that row into the book.
+    /// After the last row it reads the remaining lines.
     ///
     /// `Line` names the first line that is wrong.
     pub fn next_row(&mut self, text: &[u8]) -> Result<RowRead, HistoryFault>
@@ -388,7 +389,7 @@ impl HistoryReader {
         }
     }
 
-    /// What was read.
+    /// Returns what was read.
     pub fn into_read(self) -> ReadHistory
         ensures site { string_bytes result.site ≡ self.site }
         ensures book { result.book ≡ self.book }

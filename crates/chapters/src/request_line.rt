@@ -1,4 +1,4 @@
-//! A line of a journal, read.
+//! Reads a line of a journal.
 
 ghost use Rattle.std.specs.Prelude.{◌≡◌, IfOk};
 ghost use Rattle.device_map.specs.Requests.{request_at};

@@ -20,12 +20,12 @@ use stamps::{AT_MARK, Stamp, is_later};
 use std::alloc::Global;
 
 impl HistoryEnd {
-    /// Puts the lines of a round in place of what the text holds: of the book's rows from a place
-    /// on, but for those of reads. Ahead of the first one stands this time, where it is later than
-    /// the last one. A seal stands behind each 256th row, and at the end, if it is due there.
-    /// Without such rows there are no lines.
+    /// Replaces the text by the lines of a round: those of the book's rows from `from` on, except
+    /// rows of reads. The time `now` is above the first row, if it is later than the last time. A
+    /// seal follows each 256th row, and the last row if `is_due`. Without such rows there are no
+    /// lines.
     ///
-    /// Behind an error nothing is known of where the text ends.
+    /// After an error it isn't known where the text ends.
     pub fn put_round(
         &mut self,
         alloc: Global,
@@ -169,7 +169,7 @@ impl HistoryEnd {
         Ok(())
     }
 
-    /// Appends a seal. Behind an error nothing is known of where the text ends.
+    /// Appends a seal. After an error it isn't known where the text ends.
     pub fn put_seal(&mut self, alloc: Global, text: &mut Vec<u8>) -> Result<(), NoMemory>
         ensures written { OnOk result
             (WritesOn [] [] self.old self.new text.old.items text.new.items) }

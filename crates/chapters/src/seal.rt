@@ -1,4 +1,4 @@
-//! Seals: each is the SHA-256 of the seal before it and of the octets behind that one's line.
+//! Seals: each is the SHA-256 of the seal before it and of the octets after the line of that one.
 
 ghost use Rattle.std.specs.Prelude.{◌≡◌, ◌++◌, ℕ, IfOk, List, string_bytes};
 ghost use Rattle.hex.specs.Hex.{encode_lower};
@@ -10,7 +10,7 @@ use site_base::NoMemory;
 use std::alloc::Global;
 use std::marker::Model;
 
-/// What the next seal covers: the one before it, and the octets behind that one's line.
+/// What the next seal covers: the seal before it, and the octets after the line of that one.
 #[derive(Drop)]
 pub struct Unsealed {
     hasher: Sha256,
@@ -25,7 +25,7 @@ impl Model for Unsealed {
 }
 
 impl Unsealed {
-    /// Behind this seal there is nothing yet.
+    /// Returns what a seal covers right after the line of this seal: no octets yet.
     pub fn behind(seal: &[u8]) -> Unsealed
         ensures { Covers result seal.now }
     {
@@ -34,14 +34,14 @@ impl Unsealed {
         }
     }
 
-    /// Behind it stand these octets too.
+    /// Adds these octets to what the next seal covers.
     pub fn cover(&mut self, octets: &[u8])
         ensures { (m : List ℕ) → Covers self.old m → Covers self.new (m ++ octets.now) }
     {
         self.hasher.update(octets);
     }
 
-    /// The seal of all that, in digits; behind it there is nothing yet.
+    /// Returns the seal of all that, in digits. The next one covers no octets yet.
     pub fn seal(&mut self, alloc: Global) -> Result<String, NoMemory>
         ensures seal { IfOk result (λ seal. (m : List ℕ) → Covers self.old m
             → string_bytes seal ≡ encode_lower (sha256 m)) }

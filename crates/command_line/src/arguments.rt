@@ -1,4 +1,4 @@
-//! The arguments that commands share, as `clap` knows them.
+//! The arguments that several commands have, as `clap` knows them.
 
 ghost use Rattle.std.specs.Prelude.{◌≡◌, codes, false};
 ghost use Rattle.clap.specs.Words.{new_rule, rule_of};
@@ -39,7 +39,7 @@ pub fn shift<'a>(alloc: Global) -> Arg<'a>
     )
 }
 
-/// The time from which the sales of a history were cleared that a command prints.
+/// The time from which on the sales that a command prints were cleared.
 pub fn from<'a>(alloc: Global) -> Arg<'a>
     ensures rule { rule_of result ≡ option_rule (codes "from") }
     ensures local { result.global ≡ false }
@@ -49,7 +49,7 @@ pub fn from<'a>(alloc: Global) -> Arg<'a>
     option(alloc, "from", "T", help)
 }
 
-/// The time up to which the sales of a history were cleared that a command prints.
+/// The time up to which the sales that a command prints were cleared.
 pub fn to<'a>(alloc: Global) -> Arg<'a>
     ensures rule { rule_of result ≡ option_rule (codes "to") }
     ensures local { result.global ≡ false }
@@ -100,7 +100,7 @@ pub fn script<'a>(alloc: Global) -> Arg<'a>
         .required(true)
 }
 
-/// What an explanation is asked for.
+/// What is to be explained.
 pub fn what<'a>(alloc: Global) -> Arg<'a>
     ensures rule { rule_of result ≡ new_rule (codes "WHAT") }
     ensures local { result.global ≡ false }
@@ -119,7 +119,7 @@ pub fn flag<'a>(alloc: Global, name: &'a str, help: &'a str) -> Arg<'a>
         .action(ArgAction::SetTrue)
 }
 
-/// An option that a command asks for; help shows its value under this name.
+/// An option that a command requires. Help shows its value under this name.
 pub fn required<'a>(alloc: Global, name: &'a str, value: &'a str, help: &'a str) -> Arg<'a>
     ensures rule { rule_of result ≡ required_rule name.entry.now }
     ensures local { result.global ≡ false }

@@ -8,15 +8,15 @@ ghost use Rattle.command_line.specs.Program.{HasShape, with_argument};
 use clap::{Arg, Command};
 use std::alloc::{AllocError, Global};
 
-/// The command of this name, without arguments, with this text at the top of its help and this
-/// example at the end.
+/// Returns the command of this name, without arguments, with this text at the top of its help and
+/// this example at the end.
 pub fn start<'a>(alloc: Global, name: &'a str, about: &'a str, example: &'a str) -> Command<'a>
     ensures { HasShape (new_shape name.entry.now) result }
 {
     Command::new(alloc, name).about(about).after_help(example)
 }
 
-/// The command with one argument more.
+/// Adds an argument to the command.
 pub fn add_argument<'a>(command: Command<'a>, arg: Arg<'a>) -> Result<Command<'a>, AllocError>
     requires local { arg.global ≡ false }
     ensures { (s : _) (r : _) → HasShape s command.entry → rule_of arg.entry ≡ r
@@ -25,7 +25,7 @@ pub fn add_argument<'a>(command: Command<'a>, arg: Arg<'a>) -> Result<Command<'a
     command.arg(arg)
 }
 
-/// The program with one command more.
+/// Adds a command to the program.
 pub fn add_command<'a>(
     program: Command<'a>,
     command: Command<'a>,

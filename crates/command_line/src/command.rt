@@ -1,4 +1,4 @@
-//! What the words ask for. A text is as it was written: nothing of it is checked.
+//! What the words ask for. Each text is as it was written, and nothing of it is checked.
 
 /// A command of the program.
 #[derive(Clone, Copy, Debug, PartialEq, Eq)]
@@ -18,13 +18,14 @@ pub enum Command<'a> {
     /// `serve FILE --port N --workers N --sessions N`
     Serve(ServeOptions<'a>),
     /// `station [FILE] [--port N] [--doors FOLDER] [--history FOLDER] [--page N] [--name TEXT]
-    /// [--feed N] [--idle SECONDS] [--rate N] [--detached] [--json]`
+    /// [--feed N] [--idle SECONDS] [--rate N] [--house T] [--release-age SECONDS] [--lost SECONDS]
+    /// [--detached] [--json]`
     Station(StationOptions<'a>),
     /// `demo FILE SCRIPT [--loopback]`
     Demo(DemoOptions<'a>),
     /// `shifts FOLDER [--json]`
     Shifts(ShiftsOptions<'a>),
-    /// `next FOLDER`: the site file with which another history can go on from this folder's.
+    /// `next FOLDER`: the site file with which another history can continue this folder's.
     Next(&'a str),
     /// `verify FOLDER [--seal HEX]`
     Verify(VerifyOptions<'a>),
@@ -49,7 +50,7 @@ pub struct ReplayOptions<'a> {
     pub shift: Option<&'a str>,
     /// Prints each row of a history as an object of JSON, and not its reply.
     pub json: bool,
-    /// From which row of a history on.
+    /// The first row of a history that is printed.
     pub from: Option<&'a str>,
 }
 
@@ -69,7 +70,7 @@ pub struct ReportOptions<'a> {
 pub enum ReportForm {
     /// A line for each figure.
     Lines,
-    /// Litres and money in columns, for people. It comes before `Json` where both are asked for.
+    /// Litres and money in columns, for people. It is used if `Json` is asked for too.
     People,
     /// One object of JSON.
     Json,
@@ -82,13 +83,13 @@ pub struct SalesOptions<'a> {
     pub site: &'a str,
     /// Prints what tests drew, and not the sales.
     pub draws: bool,
-    /// Prints an object of JSON a line, and not CSV.
+    /// Prints an object of JSON on each line, and not CSV.
     pub json: bool,
     /// The shifts of the history.
     pub shift: Option<&'a str>,
-    /// Since when, for sales of a history.
+    /// Since when the printed sales of a history were cleared.
     pub from: Option<&'a str>,
-    /// Until when, for sales of a history.
+    /// Until when the printed sales of a history were cleared.
     pub to: Option<&'a str>,
 }
 
@@ -110,9 +111,9 @@ pub struct MetersOptions<'a> {
 pub enum MetersForm {
     /// Litres in columns, for people.
     People,
-    /// Comma-separated values. It comes before `Json` where both are asked for.
+    /// Comma-separated values. They are used if `Json` is asked for too.
     Csv,
-    /// An object of JSON a line.
+    /// An object of JSON on each line.
     Json,
 }
 
@@ -123,7 +124,7 @@ pub struct ServeOptions<'a> {
     pub site: &'a str,
     /// The port on which it listens.
     pub port: &'a str,
-    /// How many workers serve side by side.
+    /// How many workers serve in parallel.
     pub workers: &'a str,
     /// How many sessions are served in all.
     pub sessions: &'a str,
@@ -134,7 +135,7 @@ pub struct ServeOptions<'a> {
 pub struct StationOptions<'a> {
     /// The name of the site file. A history that has begun has its own.
     pub site: Option<&'a str>,
-    /// The port on which it listens for tills and dispensers; without one it has doors alone.
+    /// The port on which it listens for tills and dispensers; without one it has only doors.
     pub port: Option<&'a str>,
     /// The folder of the doors; without one it has none.
     pub doors: Option<&'a str>,
@@ -144,17 +145,17 @@ pub struct StationOptions<'a> {
     pub page: Option<&'a str>,
     /// The name of the site, for the page; without one it has none.
     pub name: Option<&'a str>,
-    /// The port of the feed; without one it is at its door alone, or there is none.
+    /// The port of the feed; without one the feed is only at its door, or there is none.
     pub feed: Option<&'a str>,
-    /// After how many silent seconds a session ends; without a number none does.
+    /// The seconds after which a silent session ends; without a number none does.
     pub idle: Option<&'a str>,
-    /// How many rows a session makes in a second at most.
+    /// The most rows that a session makes in a second.
     pub rate: Option<&'a str>,
     /// The house till, as which the station itself acts; without one it ends no release.
     pub house: Option<&'a str>,
-    /// After how many seconds a release that nobody used ends, where there is a house till.
+    /// The seconds after which a release that nobody used ends, if there is a house till.
     pub release_age: Option<&'a str>,
-    /// After how many seconds without a session a dispenser is lost.
+    /// The seconds without a session after which a dispenser is lost.
     pub lost: Option<&'a str>,
     /// Runs on when standard input ends.
     pub detached: bool,
@@ -189,7 +190,7 @@ pub struct AskOptions<'a> {
 pub struct ShiftsOptions<'a> {
     /// The folder of the history.
     pub history: &'a str,
-    /// Prints an object of JSON a line.
+    /// Prints an object of JSON on each line.
     pub json: bool,
 }
 
@@ -218,6 +219,6 @@ pub struct ExplainOptions<'a> {
     pub what: Option<&'a str>,
     /// The shifts of the history.
     pub shift: Option<&'a str>,
-    /// Prints the time of each row of the history ahead of it.
+    /// Prints the time of each row of the history at the front of its line.
     pub times: bool,
 }

@@ -14,7 +14,7 @@ use std::alloc::{AllocError, Global};
 /// The port of a server or of a station.
 const ANY_PORT: &str = "The port, from 0 (a free one) to 65535";
 
-/// The program with these commands.
+/// Adds these commands to the program.
 pub fn add_commands<'a>(alloc: Global, program: Command<'a>) -> Result<Command<'a>, AllocError>
     ensures { IfOk result (λ p. app_of p ≡ with_commands (app_of program.entry) day_shapes) }
 {

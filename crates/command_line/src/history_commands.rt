@@ -11,7 +11,7 @@ use crate::building::{add_argument, add_command, start};
 use clap::Command;
 use std::alloc::{AllocError, Global};
 
-/// The program with these commands.
+/// Adds these commands to the program.
 pub fn add_commands<'a>(alloc: Global, program: Command<'a>) -> Result<Command<'a>, AllocError>
     ensures { IfOk result (λ p. app_of p ≡ with_commands (app_of program.entry) history_shapes) }
 {

@@ -1,13 +1,13 @@
 //! The command line: words are parsed into a command of the program.
 //!
-//! `parse` reads the words by `clap`, and gives a plain value: a `Command` with what was written
-//! after its name, or a `NoCommand` that says what to print in its place. Nothing here reads a file
-//! or prints, and no type of `clap` is seen from outside. What an argument says, as a port, is
-//! still text: the command that gets it checks it.
+//! `parse` reads the words with `clap`, and returns a plain value: a `Command` with what was
+//! written after its name, or a `NoCommand` that says what to print instead. Nothing here reads a
+//! file or prints, and no type of `clap` is visible from outside. A value, such as a port, is still
+//! text: the command that gets it checks it.
 //!
 //! `specs/Program.antt` is the command line as a table: each command with its arguments.
-//! `specs/Commands.antt` says which command the words name by it, and `specs/Endings.antt` what is
-//! printed where they name none. The texts themselves are tested, and not proved.
+//! `specs/Commands.antt` says which command the words name by that table, and `specs/Endings.antt`
+//! what is printed if they name none. The texts themselves are tested, and not proved.
 #![tactic(auto)]
 
 mod arguments;

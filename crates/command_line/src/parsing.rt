@@ -12,8 +12,8 @@ use crate::program::build_program;
 use crate::reading::read_command;
 use std::alloc::Global;
 
-/// The command that the words name, the first of which is the program's own name; or what is
-/// printed in its place.
+/// Returns the command that the words name, or what is printed instead. The first word is the
+/// program's own name.
 pub fn parse<'a>(alloc: Global, words: &'a [String]) -> Result<Command<'a>, NoCommand>
     ensures alone { length words.entry.now ≤ 1 → result ≡ Ok Command.ReplayHere }
     ensures said { 2 ≤ length words.entry.now → IfOk result

@@ -8,7 +8,7 @@ use crate::{day_commands, history_commands, replay_commands, word_commands};
 use clap::Command;
 use std::alloc::{AllocError, Global};
 
-/// The program with all its commands.
+/// Returns the program with all its commands.
 pub fn build_program<'a>(alloc: Global) -> Result<Command<'a>, AllocError>
     ensures { IfOk result (λ p. app_of p ≡ program) }
 {

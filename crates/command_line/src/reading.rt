@@ -11,7 +11,7 @@ use crate::command::{
 };
 use clap::ArgMatches;
 
-/// The command of these matches, with what was written after its name.
+/// Returns the command of these matches, with what was written after its name.
 pub fn read_command<'a>(matches: &ArgMatches<'a>) -> Command<'a>
     ensures { IsSaidBy (subcommand_rows_of matches.now) result }
 {

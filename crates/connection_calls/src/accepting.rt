@@ -11,7 +11,7 @@ pub enum Caller<S> {
     Gone,
     /// Nobody.
     None,
-    /// Accepting failed so.
+    /// Accepting failed with this error.
     Failed(io::Error),
 }
 

@@ -10,7 +10,7 @@ use std::io::{self, ErrorKind};
 /// What became of a call.
 #[derive(Clone, Copy, Debug, PartialEq, Eq)]
 pub enum Call {
-    /// So many octets passed.
+    /// This number of octets passed.
     Passed(usize),
     /// It was interrupted, and may be made again.
     Interrupted,
@@ -23,7 +23,7 @@ pub enum Call {
 }
 
 impl Call {
-    /// What became of a call that passed no octet, and answered this error.
+    /// Returns what became of a call that passed no octet, and ended with this error.
     pub fn of_error(error: &io::Error) -> Call
         ensures kind { result ≡ call_of (error_kind error.now) }
         ensures stops { IsStop result }
@@ -36,7 +36,7 @@ impl Call {
     }
 }
 
-/// The interest of a connection: it is read from, and written to.
+/// Returns the interest of a connection that is both read and written.
 pub fn both_ways() -> Interest {
     Interest::READABLE | Interest::WRITABLE
 }

@@ -1,5 +1,5 @@
-//! The calls of connections, each made when it is ready: what became of one, who waits at a
-//! listener, and how much is done before others have their turn.
+//! The calls of connections, each made when its connection is ready: what became of a call, who
+//! waits at a listener, and how much is done before others are served.
 #![tactic(auto)]
 
 mod accepting;

@@ -1,10 +1,10 @@
-//! How much is done before others have their turn, each written once.
+//! How much is done before others are served, each number written once.
 
-/// A read takes at most so many octets.
+/// The most octets that one read takes.
 pub const PIECE_OCTETS: usize = 4_096;
 
-/// So many reads are made of a peer, or writes to it, before others have their turn.
+/// The most reads from a peer, or writes to it, before others are served.
 pub const CALLS_A_TURN: usize = 16;
 
-/// So many connections are accepted before others have their turn.
+/// The most connections that are accepted before others are served.
 pub const ACCEPTS_A_TURN: usize = 64;

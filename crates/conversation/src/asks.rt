@@ -23,20 +23,20 @@ pub trait Asks {
     // The request of an actor, asked so, had this outcome, and led from one state to the other.
     ghost asked: { Seen → Actor → Event → Outcome → Seen → Type 0 };
 
-    /// Asks for the event of a row by its actor, and fills in the site's reply; or says why there
-    /// is no row.
+    /// Asks for the event of a row by its actor, and fills in the site's reply. Or returns why
+    /// there is no row.
     fn ask(&mut self, row: &mut Row) -> Result<(), NoRow>
         ensures asked { asked (seen self.old) row.old.actor row.old.event
             (outcome_of row.new result) (seen self.new) }
         ensures request { row.new ≡ record row.old { reply = row.new.reply } };
 }
 
-/// Why a message of anyone has no row.
+/// Why a message has no row, whoever sent it.
 #[derive(Clone, Copy, Debug, PartialEq, Eq)]
 pub enum NoReply {
     /// It means no event.
     Fault(MapFault),
-    /// Its request made none.
+    /// Its request made no row.
     NoRow(NoRow),
 }
 
@@ -56,7 +56,7 @@ impl Asks for SiteBook {
     }
 }
 
-/// Fills in the reply of a row's request that had this outcome; or says why there is no row.
+/// Fills in the reply of a row's request that had this outcome. Or returns why there is no row.
 pub fn fill(row: &mut Row, outcome: &Result<Reply, NoRow>) -> Result<(), NoRow>
     ensures outcome { outcome_of row.new result ≡ outcome.now }
     ensures request { row.new ≡ record row.old { reply = row.new.reply } }

@@ -1,4 +1,4 @@
-//! A message is heard: what it means is asked.
+//! Hears a message: asks what it means.
 
 ghost use Rattle.std.specs.Prelude.{◌≡◌};
 ghost use Rattle.conversation.specs.Asking.{IsHeard};
@@ -13,9 +13,9 @@ use device_map::request_in;
 use peer_talk::{Meaning, Talk};
 use site_base::{Actor, Answer, Event, NoRow, Reply, Row};
 
-/// Hears a message of a talk, which serves the originator of its first one. A request is asked
-/// once, and noted; nothing is asked for a message of another originator, nor for one that means
-/// no event.
+/// Hears a message of a talk, which serves the originator of its first message. A request is asked
+/// once, and noted. Nothing is asked for a message of another originator, or for one that means no
+/// event.
 pub fn hear<A: Asks>(talk: &mut Talk, asks: &mut A, message: &Message) -> Said
     ensures means { meaning_of result ≡ meaning_at talk.old.peer message.now }
     ensures talk { talk.new ≡ talk_after message.now.from result talk.old }
@@ -36,8 +36,8 @@ pub fn hear<A: Asks>(talk: &mut Talk, asks: &mut A, message: &Message) -> Said
     }
 }
 
-/// Hears a message of anyone, whom no talk serves: of a replay. Its request is asked once: this is
-/// its row, or why there is none.
+/// Hears a message of a replay, which serves no single originator. Its request is asked once.
+/// Returns its row, or why there is none.
 #[inline(always)]
 pub fn hear_anyone<A: Asks>(asks: &mut A, message: &SpelledMessage<'_>) -> Result<Row, NoReply>
     ensures { IsHeard A.asked (A.seen asks.old) message.now result (A.seen asks.new) }
@@ -57,7 +57,7 @@ pub fn hear_anyone<A: Asks>(asks: &mut A, message: &SpelledMessage<'_>) -> Resul
     }
 }
 
-/// Asks for an event of an actor: the site's reply, with a row, or why there is no row.
+/// Asks for an event of an actor. Returns the site's reply, with a row, or why there is no row.
 #[inline(always)]
 pub fn ask<A: Asks>(asks: &mut A, actor: Actor, event: Event) -> Result<Reply, NoRow>
     ensures { A.asked (A.seen asks.old) actor event result (A.seen asks.new) }

@@ -1,8 +1,8 @@
-//! A conversation, message by message: what a message means is asked of whoever answers, and what
-//! is said to it is written.
+//! A conversation, message by message: it finds what a message means, asks that, and writes what is
+//! answered.
 //!
-//! The replay, the sessions over a connection and the station are its drivers: each asks something
-//! else (`Asks`), and tells in its own way what is said. A journal that is read back asks its book
+//! The replay, the sessions over a connection and the station use it. Each asks something else
+//! (`Asks`), and sends in its own way what is answered. A journal that is read back asks its book
 //! for each request too.
 #![tactic(auto)]
 

@@ -8,7 +8,7 @@ use device_map::MapFault;
 use peer_talk::{ORIGINATOR_CHANGED, ReplyWriter};
 use site_base::{Actor, Event, NoMemory, NoRow, Reply};
 
-/// What is said to a message.
+/// What is answered to a message.
 #[derive(Clone, Copy, Debug, PartialEq, Eq)]
 pub enum Said {
     /// The message came from another originator than the first. It is answered with 57, and the
@@ -21,7 +21,7 @@ pub enum Said {
 }
 
 impl Said {
-    /// The message that says it to a request: the reply, or a number in its place.
+    /// Writes the message that answers a request with this: the reply, or a number in its place.
     #[inline(always)]
     pub fn write(
         &self,

@@ -1,4 +1,4 @@
-//! A crew: a worker for each list of calls, in threads of their own.
+//! A crew: a worker for each list of calls, each in its own thread.
 
 ghost use Rattle.std.specs.Prelude.{◌≡◌, ◌≤◌, length, map, vec_items, IfOk};
 ghost use Rattle.counter_desk.specs.declared.crews.TheConstants.{WORKERS};
@@ -33,11 +33,11 @@ impl<'a> Promise<ListEnd> for EndOf<'a> {
 /// A worker's thread, if it was started.
 type Started<'a> = Option<PromisedHandle<ListEnd, EndOf<'a>>>;
 
-/// Makes the calls of each list by a worker of its own, all side by side. Each takes a share from
-/// the root, works through its list and hands the share back. There is one end for each list, in
-/// their order: its worker's, or, where that couldn't be started, one that says so; then no share
-/// was given and nothing was placed. An allocation that fails here is answered before any worker
-/// starts. A thread takes its share itself and hands it back, since it can't return one.
+/// Makes the calls of each list by a worker of its own, in parallel. Each takes a share from the
+/// root, works through its list and hands the share back. The result has one end for each list, in
+/// their order: that of its worker, or, if the worker couldn't be started, one that says so; then
+/// no share was given and nothing was placed. An allocation that fails here is reported before any
+/// worker starts. A thread takes its share itself and hands it back, because it can't return one.
 pub fn crew<
     L: Ledger + Send + Sync,
     C: Naming + Send + Sync,

@@ -1,4 +1,4 @@
-//! Which tills are owed a sign-off.
+//! The tills to which a sign-off is owed.
 
 ghost use Rattle.std.specs.Prelude.{◌≡◌, ◌-◌, ◌≤◌, false, length, slice_index_or, slice_set};
 ghost use Rattle.site_base.specs.declared.limits.TheConstants.{TILL_CELLS, TILLS};

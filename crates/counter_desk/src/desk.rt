@@ -20,16 +20,17 @@ use std::alloc::Global;
 use std::sync::ledger::{Blank, Ledger};
 use std::sync::{Mutex, Wait};
 
-/// One site, shared by several workers: its book stands under one lock, and each call is one
-/// holding of it. Each worker has a share, which the desk's root gave it.
+/// One site, shared by several workers. Its book is under one lock, and each call takes the lock
+/// once. Each worker has a share, which the desk's root gave it.
 #[derive(Drop)]
 pub struct Desk<L: Ledger, C: Naming> {
     pub(crate) site: Mutex<Locked<L, C>>,
 }
 
 impl<L: Ledger, C: Naming> Desk<L, C> {
-    /// The desk of the opening site of this configuration, and its root, which has given no share.
-    /// `blank` is the ledger of calls, cut into 2^63 parts, so that there is one for each share.
+    /// Opens the desk of the opening site of this configuration, and its root, which has given no
+    /// share. `blank` is the ledger of calls, cut into 2^63 parts, so that there is one for each
+    /// share.
     pub fn try_open(
         alloc: Global,
         blank: Blank,
@@ -47,11 +48,11 @@ impl<L: Ledger, C: Naming> Desk<L, C> {
         Ok((desk, Root::new(alloc, rest)))
     }
 
-    /// One event of one actor. It makes one row, and the share one receipt, which is that row: of a
-    /// legal history of the desk's configuration. `BookFull` comes where the book has as many rows
-    /// as the configuration allows, `NoMemory` where an allocation fails; then there is no row, and
-    /// the share is as before. An accepted SignOn makes the share owe the till, an accepted SignOff
-    /// ends that.
+    /// Submits one event of one actor. It makes one row, and in the share one receipt, which is
+    /// that row: of a legal history of the desk's configuration. `BookFull` comes if the book has
+    /// as many rows as the configuration allows, `NoMemory` if an allocation fails; then there is
+    /// no row, and the share is as before. After an accepted SignOn the share owes the till a
+    /// sign-off; an accepted SignOff ends that.
     #[tactic(auto, using(crate::proofs::OwedTills::cells_after))]
     pub fn submit<R: Wait>(
         &self,
@@ -75,9 +76,9 @@ impl<L: Ledger, C: Naming> Desk<L, C> {
         self.site.lock(rt).submit(share, &actor, &event)
     }
 
-    /// Signs off a till that the share owes, on a full book too; it takes no memory. None where the
-    /// till was signed off through another share; then there is no row. The share owes the till
-    /// nothing then.
+    /// Signs off a till to which the share owes it, on a full book too. It takes no memory. Returns
+    /// None, without a row, if the till was signed off through another share. The share then owes
+    /// the till nothing.
     pub fn leave<R: Wait>(&self, rt: &R, share: &mut Share<L, C>, t: TillNo) -> Option<Placed>
         requires { owes share.old t ≡ true }
         ensures reply { IfSome result (λ placed. placed.reply ≡ Ok Answer.Done) }
@@ -91,16 +92,16 @@ impl<L: Ledger, C: Naming> Desk<L, C> {
         self.site.lock(rt).leave(share, t)
     }
 
-    /// The point as a read shows it: in a legal history of the desk's configuration. None where the
-    /// site has no such point. It makes no row.
+    /// Returns the point as a read shows it, in a legal history of the desk's configuration; None
+    /// if the site has no such point. It makes no row.
     pub fn point<R: Wait>(&self, rt: &R, p: FpNo) -> Option<PointView>
         ensures { IsShownInLegal C.config p result }
     {
         self.site.lock(rt).point(p)
     }
 
-    /// The figures of the rows so far: of a legal history of the desk's configuration, with one
-    /// member for each of its products. It makes no row.
+    /// Returns the figures of the rows so far: of a legal history of the desk's configuration, with
+    /// one member for each of its products. It makes no row.
     pub fn snapshot<R: Wait>(&self, rt: &R, alloc: Global) -> Result<Totals, NoMemory>
         ensures figures { IfOk result (λ totals. AreFiguresInLegal C.config totals) }
         ensures products { IfOk result (λ totals.

@@ -1,14 +1,14 @@
-//! Gates: what a worker passes before and after each call.
+//! Gates, which a worker passes before and after each call.
 
 use site_base::Actor;
 
-/// What a worker passes on its way to the site and back. A test holds workers there; otherwise it
-/// is open.
+/// What a worker passes on its way to the site and back. A test may hold workers there; otherwise
+/// it is open.
 pub trait Gate {
-    /// Before the actor's call takes the lock.
+    /// Is called before the actor's call takes the lock.
     fn before_lock(&self, actor: Actor);
 
-    /// After the actor's call was answered, also where it made no row.
+    /// Is called after the actor's call was answered, even if it made no row.
     fn after_reply(&self, actor: Actor);
 }
 

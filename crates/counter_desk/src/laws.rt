@@ -7,11 +7,11 @@ use written_site::{
     legal_histories_are_runs, locked_by_one, volumes_are_conserved, volumes_cleared_are_counted,
 };
 
-/// Of all that the lock keeps between two holdings: the history is a run of the written one-thread
-/// site with just these replies. In it no fuelling point has two tills at once, no transaction two
-/// lockers at once or two clears; what tills cleared, the volumes cleared by shift and those that
-/// tests drew are what the rows tell; and each product's metered volume is its running, payable,
-/// locked, cleared and adjusted volume.
+/// For whatever the lock has between two calls: the history is a run of the written one-thread site
+/// with exactly these replies. In it no fuelling point has two tills at once, and no transaction
+/// has two lockers at once or two clears. What tills cleared, the volumes cleared by shift and
+/// those that tests drew are what the rows tell. Each product's metered volume is the sum of its
+/// running, payable, locked, cleared and adjusted volumes.
 pub fn kept_histories_are_sound()
     ensures { IsKeptSound }
 {

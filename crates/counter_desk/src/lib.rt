@@ -1,6 +1,6 @@
-//! The counter desk: one site for several workers. The site and its history stand under one lock;
-//! each worker has a share, which keeps a receipt of each of its calls; and once all shares are
-//! handed in, a settlement shows that they add up to the history.
+//! The counter desk: one site for several workers. The site and its history are under one lock.
+//! Each worker has a share, which keeps a receipt for each of its calls. Once all shares are handed
+//! in, a settlement shows that they add up to the history.
 #![tactic(auto)]
 
 mod crews;

@@ -1,4 +1,4 @@
-//! What stands under the site's lock: the book, and the ledger of the calls that made its rows.
+//! What is under the site's lock: the book, and the ledger of the calls that made its rows.
 
 ghost use Rattle.std.specs.Prelude.{◌≡◌, ◌+◌, ◌-◌, ◌≤◌, [], ◌∷◌, ◌++◌, false, true, is_some};
 ghost use Rattle.std.specs.Prelude.{length, slice_get, slice_set, Ok, IfOk, IfSome, IsErrOf};

@@ -1,4 +1,4 @@
-//! Receipts: what an actor was told, and at which place of the history its row stands.
+//! Receipts: what an actor was answered, and at which place of the history its row is.
 
 ghost use Rattle.std.specs.Prelude.{◌≡◌, ◌+◌, ◌*◌, ◌<◌, ◌≤◌, ◌↔◌, [], ◌∷◌, ◌++◌, length, slice_get};
 ghost use Rattle.std.specs.Prelude.{IsTrue, OnOk};
@@ -15,7 +15,7 @@ use site_book::Rows;
 use std::alloc::Global;
 use std::marker::Model;
 
-/// What an actor was told of one event: the row of the history at this place.
+/// What an actor was answered for one event: the row of the history at this place.
 #[derive(Clone, Copy, Debug, PartialEq, Eq)]
 pub struct Receipt {
     /// The place of the row, counted from 0.

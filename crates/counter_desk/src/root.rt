@@ -56,7 +56,7 @@ impl<L: Ledger, C: Naming> Root<L, C> {
         }
     }
 
-    /// Gives a share: it has no receipts and owes nobody. The place of its return is reserved.
+    /// Gives a share, which has no receipts and owes nobody. The memory for its return is reserved.
     pub fn give(&mut self) -> Result<Share<L, C>, NoMemory>
         ensures out { OnOk result (self.new.out ≡ self.old.out + 1) }
         ensures lists { self.new.lists ≡ self.old.lists }
@@ -81,7 +81,7 @@ impl<L: Ledger, C: Naming> Root<L, C> {
         self.out -= 1;
     }
 
-    /// How many shares are out.
+    /// Returns the number of shares that are out.
     pub fn out(&self) -> u64
         ensures { result ≡ self.now.out }
     {

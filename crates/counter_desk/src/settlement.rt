@@ -22,13 +22,13 @@ use thiserror::Error;
 /// The figures of a day that is settled.
 #[derive(Drop)]
 pub struct Settled {
-    /// How many rows the history has, and how many calls all shares made.
+    /// The number of rows in the history, and of calls that all shares made.
     pub rows: u64,
     /// The cents that were cleared, by the history and by all shares.
     pub cents: u64,
     /// The millilitres that were metered, by the history and by all shares.
     pub millilitres: u64,
-    /// How many shares came back.
+    /// The number of shares that came back.
     pub shares: u64,
     /// The figures of the history.
     pub book: Totals,
@@ -37,8 +37,8 @@ pub struct Settled {
 /// Why a day isn't settled.
 #[derive(Clone, Copy, Debug, PartialEq, Eq, Error)]
 pub enum SettleFault {
-    /// A receipt of this place isn't its row, or the place was receipted before or isn't above the
-    /// one before it in its share.
+    /// The receipt of this place isn't its row, or the place had a receipt before or isn't above
+    /// the place before it in its share.
     #[error("a receipt of place {0} is strange")]
     StrangeReceipt(u64),
     /// An allocation failed.
@@ -47,7 +47,7 @@ pub enum SettleFault {
 }
 
 impl SettleFault {
-    /// Its number: 60 or 31.
+    /// Returns its number: 60 or 31.
     pub fn number(self) -> u8
         ensures { result ≡ settle_fault_number self }
     {
@@ -58,7 +58,7 @@ impl SettleFault {
     }
 }
 
-/// A day that isn't settled: its desk and its root as they were, and why.
+/// A day that isn't settled: its desk and its root as they were, and the reason.
 #[derive(Drop)]
 pub struct Unsettled<L: Ledger, C: Naming> {
     /// Why it isn't settled.
@@ -70,15 +70,15 @@ pub struct Unsettled<L: Ledger, C: Naming> {
 }
 
 impl<L: Ledger, C: Naming> Desk<L, C> {
-    /// Compares the receipts of all shares with the history, once every share came back. Where it
-    /// answers the figures, the shares add up to the history: each row is told by one receipt of
-    /// one share, and each share's calls stand there in the order in which it made them. It fails
-    /// where a receipt is strange, or an allocation fails; then nothing has changed.
+    /// Compares the receipts of all shares with the history, once every share came back. If it
+    /// returns the figures, the shares add up to the history: each row has one receipt in one
+    /// share, and each share's calls are in the history in the order in which the share made them.
+    /// It fails if a receipt is strange, or an allocation fails; then nothing has changed.
     ///
-    /// The rows stand behind the desk's lock, which forgets all but their type, so `fault` speaks
-    /// of a legal history of this configuration with as many rows as the shares made calls, and
-    /// can't say that it is the desk's own. Under the lock it is: `Locked::settle` compares its own
-    /// rows.
+    /// The rows are under the desk's lock, of which only their type is known here. So `fault`
+    /// speaks of a legal history of this configuration with as many rows as the shares made calls,
+    /// and can't say that it is the desk's own. Under the lock it is: `Locked::settle` compares its
+    /// own rows.
     pub fn settle(self, alloc: Global, root: Root<L, C>) -> Result<Settled, Unsettled<L, C>>
         requires { root.out ≡ 0 }
         ensures ok { IfOk result (λ settled. Settles C.config root.lists settled) }

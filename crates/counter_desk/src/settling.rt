@@ -1,4 +1,4 @@
-//! The end of a day: its desk is settled, whatever came back.
+//! The end of a day: its desk is settled, whatever shares came back.
 
 ghost use Rattle.std.specs.Prelude.{◌≡◌, ◌≢◌, IfErr, IfOk, OnOk};
 ghost use Rattle.counter_desk.specs.Settlement.{IsFaultIn, IsFaultOut, Settles};
@@ -12,9 +12,10 @@ use std::alloc::Global;
 use std::sync::Wait;
 use std::sync::ledger::Ledger;
 
-/// Settles a desk whose workers have ended: what it answers are the figures of the receipts that
-/// came back. It fails where a receipt is strange, and where a share is out: then the place behind
-/// the last row is told, or want of memory. Where it fails, desk and root are handed back.
+/// Settles a desk whose workers have ended. Returns the figures of the receipts that came back. It
+/// fails if a receipt is strange, if memory runs out, or if a share is out: then the fault names
+/// the place after the last row, or is `NoMemory`. If it fails, it hands the desk and the root
+/// back.
 pub fn settle_all<L: Ledger, C: Naming, R: Wait>(
     rt: &R,
     alloc: Global,

@@ -19,7 +19,7 @@ use std::marker::{Model, PhantomData};
 use std::sync::ledger;
 use std::sync::ledger::{Book, Ledger};
 
-/// A share of the day's work: a receipt of each call that was made through it, in the order of the
+/// A share of the day's work: a receipt for each call that was made through it, in the order of the
 /// calls. It can't be dropped: the root that gave it takes it back. It owes a sign-off to each till
 /// that signed on through it and didn't sign off, and has room for that.
 #[must_use]
@@ -62,28 +62,28 @@ impl<L: Ledger, C: Naming> Share<L, C> {
         }
     }
 
-    /// How many calls were made through it.
+    /// Returns the number of calls that were made through it.
     pub fn calls(&self) -> u64
         ensures { result ≡ length self.now.receipts }
     {
         self.receipts.len() as u64
     }
 
-    /// The cents that its calls cleared.
+    /// Returns the cents that its calls cleared.
     pub fn cents(&self) -> u64
         ensures { result ≡ cents_receipted self.now.receipts }
     {
         self.receipts.cents()
     }
 
-    /// The millilitres that its calls reported, as far as the reports were taken.
+    /// Returns the millilitres in its calls' reports that were accepted.
     pub fn millilitres(&self) -> u64
         ensures { result ≡ growth_receipted self.now.receipts }
     {
         self.receipts.millilitres()
     }
 
-    /// Has the till signed on through it, without a sign-off through it since?
+    /// Has the till signed on through it, and not signed off through it since?
     pub fn owes(&self, t: TillNo) -> bool
         ensures value { result ≡ owes self.now t }
         ensures cells { length self.now.owed ≡ TILL_CELLS }

@@ -1,11 +1,12 @@
-//! A gate for tests of workers that run side by side.
+//! A gate for tests of workers in parallel.
 
 use crate::gate::Gate;
 use site_base::Actor;
 use std::sync::atomic::{AtomicU64, Ordering};
 use std::thread;
 
-/// Holds one actor before the lock until another was answered, for at most so many turns.
+/// Holds one actor before the lock until another one was answered, for at most a given number of
+/// turns.
 #[derive(Drop)]
 pub struct HoldingGate {
     held: Actor,
@@ -14,7 +15,7 @@ pub struct HoldingGate {
 }
 
 impl HoldingGate {
-    /// A gate that holds this actor.
+    /// Returns a gate that holds this actor.
     pub fn new(held: Actor) -> HoldingGate {
         HoldingGate {
             held,
@@ -23,7 +24,7 @@ impl HoldingGate {
         }
     }
 
-    /// Was the actor let through before another was answered, since the turns were used up?
+    /// Was the actor let through before another one was answered, because the turns were used up?
     pub fn has_given_up(&self) -> bool {
         self.gave_up.load(Ordering::SeqCst) != 0
     }

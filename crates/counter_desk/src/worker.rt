@@ -25,7 +25,7 @@ pub enum WorkFault {
     /// An allocation failed.
     #[error("no memory")]
     NoMemory,
-    /// The worker couldn't be started; it was given no share.
+    /// The worker couldn't be started. It was given no share.
     #[error("the worker wasn't started")]
     NoWorker,
 }
@@ -41,7 +41,7 @@ impl WorkFault {
         }
     }
 
-    /// Its number: 30, 31 or 64.
+    /// Returns its number: 30, 31 or 64.
     pub fn number(self) -> u8
         ensures { result ≡ work_fault_number self }
     {
@@ -56,16 +56,16 @@ impl WorkFault {
 /// How a list of calls ended.
 #[derive(Clone, Copy, Debug, PartialEq, Eq)]
 pub struct ListEnd {
-    /// How many of its calls made a row, from the first on.
+    /// The number of its calls that made a row, from the first on.
     pub placed: u64,
-    /// How many of these were accepted.
+    /// The number of these rows that were accepted.
     pub accepted: u64,
-    /// Why it ended before the list did; None where it didn't.
+    /// Why it ended before the list did; None if it didn't.
     pub fault: Option<WorkFault>,
 }
 
 /// Makes the calls of the list, in order, each between the gate's two calls, and stops at the first
-/// that makes no row. Then it signs off each till that the share owes.
+/// that makes no row. Then it signs off each till to which the share owes that.
 pub fn work<L: Ledger, C: Naming, G: Gate, R: Wait>(
     rt: &R,
     desk: &Desk<L, C>,

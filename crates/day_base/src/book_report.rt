@@ -16,7 +16,7 @@ use site_book::SiteBook;
 use std::alloc::Global;
 use std::io::Write;
 
-/// Writes the report of a book. However it ends, a front of it is written.
+/// Writes the report of a book. However it ends, a prefix of the report is written.
 pub fn put_book_report<W: Write>(
     alloc: Global,
     book: &SiteBook,
@@ -47,7 +47,7 @@ fn report_text(alloc: Global, book: &SiteBook, form: ReportForm) -> Result<Strin
     }
 }
 
-/// The report of a station's book as JSON: one object, on one line.
+/// Returns the report of a station's book as JSON: one object, on one line.
 pub fn json_report_of_book(alloc: Global, book: &SiteBook) -> Result<String, NoMemory>
     ensures { IfOk result (λ text. string_bytes text ≡ report_in ReportForm.Json book.now) }
 {

@@ -9,8 +9,8 @@ use site_base::NoMemory;
 use std::sync::ledger::Ledger;
 use thiserror::Error;
 
-/// Why a day of a server, of a demo or of a station ends with a fault. A session's fault ends that
-/// session alone, and so does a worker's its own work.
+/// Why a day of a server, of a demo or of a station ends with a fault. A session's fault ends only
+/// that session, and a worker's fault only its own work.
 #[derive(Clone, Copy, Debug, PartialEq, Eq, Error)]
 pub enum DayFault {
     /// An allocation failed.
@@ -25,17 +25,18 @@ pub enum DayFault {
     /// A worker, or the thread that waits for a station's input, couldn't be started.
     #[error("fault 64")]
     NoWorker,
-    /// A write of what the day tells, or of its journal, failed, or was interrupted too often.
+    /// A write of the day's text, or of its journal, failed, or was interrupted too often.
     #[error("fault {}", .0.number())]
     Write(WriteFault),
-    /// The day isn't settled: the receipt of this place is strange, or a share is out, and there
-    /// are so many rows.
+    /// The day isn't settled: the receipt of this place is strange, or a share is out, and this is
+    /// the number of rows.
     #[error("unsettled 60 place {0}")]
     Unsettled(u64),
 }
 
 impl DayFault {
-    /// It can't listen on this port of 127.0.0.1; where it is 0, on no free one.
+    /// Returns the fault that it can't listen on this port of 127.0.0.1; for port 0, on no free
+    /// one.
     pub fn of_port(port: u16) -> DayFault {
         if port == 0 {
             DayFault::NoConnection
@@ -44,8 +45,8 @@ impl DayFault {
         }
     }
 
-    /// The exit status of a program that ends with this fault: 3 where the day isn't settled, 4 for
-    /// want of memory, else 1.
+    /// Returns the exit status of a program that ends with this fault: 3 if the day isn't settled,
+    /// 4 if memory ran out, otherwise 1.
     pub fn exit_status(self) -> u8
         ensures { result ≡ day_status self }
     {

@@ -1,4 +1,4 @@
-//! What a station does by itself, from the words of a command line.
+//! What a station does by itself, read from the words of a command line.
 
 ghost use Rattle.std.specs.Prelude.{ℕ, Option, ◌≡◌, IfOk, IfErr, option_map};
 ghost use Rattle.day_base.specs.HousePlans.{IsFirstHouseFault, TellsHouse, TellsHousePlan};
@@ -7,36 +7,37 @@ ghost use Rattle.day_base.specs.HousePlans.{TellsLost, TellsReleaseAge};
 use crate::options::{OptionFault, number_in};
 use site_base::TILLS;
 
-/// A release that nobody uses stands for so many seconds at least, and at most.
+/// The fewest seconds after which a release that nobody uses may end.
 pub const LEAST_RELEASE_SECONDS: u64 = 10;
 
+/// The most seconds after which such a release may end.
 pub const MOST_RELEASE_SECONDS: u64 = 3_600;
 
-/// .. where nothing is said of it.
+/// The seconds after which such a release ends, unless the command line gives others.
 pub const USUAL_RELEASE_SECONDS: u64 = 120;
 
-/// A dispenser may be gone for so many seconds at most until it is lost.
+/// The most seconds that a dispenser may be gone until it is lost.
 pub const MOST_LOST_SECONDS: u64 = 86_400;
 
-/// .. where nothing is said of it.
+/// The seconds until a dispenser that is gone is lost, unless the command line gives others.
 pub const USUAL_LOST_SECONDS: u64 = 60;
 
 /// As which till a station acts by itself, and when.
 #[derive(Clone, Copy, Debug, PartialEq, Eq)]
 pub struct HousePlan {
-    /// The number of the house till; without one no release is ended.
+    /// The number of the house till; None if no release is ended.
     pub house: Option<u8>,
-    /// A release that has stood for so many seconds ends.
+    /// The seconds after which a release ends.
     pub release_seconds: u64,
-    /// A dispenser that has been gone for so many seconds is lost; 0: none is.
+    /// The seconds without a session after which a dispenser is lost. With 0 none is lost.
     pub lost_seconds: u64,
 }
 
 impl HousePlan {
-    /// The plan that these words tell, or the first of them that isn't a decimal number in its
-    /// range: the house till from 1 to 32, where there is a word of it, the seconds of a release
-    /// from 10 to 3,600, 120 where there is no word of them, those of a dispenser from 0 to 86,400,
-    /// 60 where there is no word of them. A sign is no digit.
+    /// Reads the plan from these words. The house till is from 1 to 32, if there is a word for it.
+    /// The seconds of a release are from 10 to 3,600, and 120 without a word; those of a dispenser
+    /// are from 0 to 86,400, and 60 without a word. Otherwise returns the first word that isn't a
+    /// decimal number in its range. A sign isn't a digit.
     pub fn read(
         house: Option<&str>,
         release_age: Option<&str>,

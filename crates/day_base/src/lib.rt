@@ -2,7 +2,7 @@
 //!
 //! `ServerPlan::read`, `StationPlan::read` and `HousePlan::read` read what the command line asks of
 //! them: `specs/Plans.antt`, `HousePlans.antt`. `put_listening` and `put_places` write where a day
-//! listens, `put_report` the report of a day that is settled, `put_book_report` that of a book:
+//! listens, `put_report` writes the report of a settled day, and `put_book_report` that of a book:
 //! `specs/Texts.antt`. `DayFault` says why a day ends with a fault, and `exit_day` ends the program
 //! with it: `specs/Ends.antt`.
 #![tactic(auto)]

@@ -1,4 +1,4 @@
-//! The plans of a server and of a station, from the words of a command line.
+//! The plans of a server and of a station, read from the words of a command line.
 
 ghost use Rattle.std.specs.Prelude.{ℕ, Option, ◌≡◌, IfOk, IfErr, IfSome, IfNone, option_map};
 ghost use Rattle.day_base.specs.Plans.{TellsIdle, TellsNumber, TellsPlace, TellsPlan};
@@ -48,9 +48,9 @@ pub enum OptionFault {
 }
 
 impl ServerPlan {
-    /// The plan that these words tell, or the first of them that isn't a decimal number in its
-    /// range: the port from 0 (a free one) to 65535, workers from 1 to 16, sessions from 1 to
-    /// 10,000. A sign is no digit.
+    /// Reads the plan from these words: the port from 0 (a free one) to 65535, workers from 1 to
+    /// 16, sessions from 1 to 10,000. Otherwise returns the first word that isn't a decimal number
+    /// in its range. A sign isn't a digit.
     pub fn read(port: &str, workers: &str, sessions: &str) -> Result<ServerPlan, OptionFault>
         ensures plan { IfOk result (λ plan. TellsPlan port.now workers.now sessions.now plan) }
         ensures first { IfErr result (λ fault. IsFirstFault port.now workers.now sessions.now
@@ -68,10 +68,11 @@ impl ServerPlan {
 }
 
 impl StationPlan {
-    /// The plan that these words tell, or the first of them that isn't a decimal number in its
-    /// range: the port from 0 (a free one) to 65535, those of the page and of the feed too, where
-    /// there is a word of them, the seconds, where there is a word of them, from 1 to 86,400, the
-    /// rate from 0 to 1,000,000, 1,000 where there is no word of it. A sign is no digit.
+    /// Reads the plan from these words. The port, and those of the page and of the feed, are from 0
+    /// (a free one) to 65535, if there is a word for them. The seconds are from 1 to 86,400, if
+    /// there is a word for them. The rate is from 0 to 1,000,000, and 1,000 without a word.
+    /// Otherwise returns the first word that isn't a decimal number in its range. A sign isn't a
+    /// digit.
     pub fn read(
         port: Option<&str>,
         page: Option<&str>,

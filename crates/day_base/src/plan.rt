@@ -7,13 +7,13 @@ ghost use Rattle.till_session.specs.declared.server.TheConstants.{SESSIONS};
 use counter_desk::WORKERS;
 use till_session::SESSIONS;
 
-/// The port on which a server listens, and how many workers serve how many sessions, within their
-/// limits.
+/// The port on which a server listens, the number of its workers and that of the sessions, within
+/// their limits.
 #[derive(Clone, Copy, Debug, PartialEq, Eq)]
 pub struct ServerPlan {
     /// The port, 0 for a free one.
     pub port: u16,
-    /// How many workers serve side by side.
+    /// How many workers serve in parallel.
     pub workers: usize,
     /// How many sessions are served in all.
     pub sessions: usize,
@@ -23,27 +23,27 @@ pub struct ServerPlan {
     ghost few_sessions: { sessions ≤ SESSIONS },
 }
 
-/// A session of which nothing comes for so many seconds can be ended, at most.
+/// The most seconds after which a silent session may be ended.
 pub const IDLE_SECONDS: u64 = 86_400;
 
-/// A station hears so many requests a second of a session, at most.
+/// The most requests a second that a station may hear of a session.
 pub const GREATEST_RATE: u64 = 1_000_000;
 
-/// .. so many where nothing is said of it.
+/// The requests a second that a station hears of a session, unless the command line gives others.
 pub const USUAL_RATE: u64 = 1_000;
 
 /// The ports on which a station listens, how long a peer may be silent, and how much is heard.
 #[derive(Clone, Copy, Debug, PartialEq, Eq)]
 pub struct StationPlan {
-    /// The port, 0 for a free one; without a number it listens at doors alone.
+    /// The port, 0 for a free one; without one it listens only at doors.
     pub port: Option<u16>,
-    /// The page's port, 0 for a free one; without a number there is no page.
+    /// The page's port, 0 for a free one; without one there is no page.
     pub page: Option<u16>,
-    /// The feed's port, 0 for a free one; without a number there is none.
+    /// The feed's port, 0 for a free one; without one there is none.
     pub feed: Option<u16>,
-    /// A session of which nothing comes for so many seconds ends; without a number none does.
+    /// The seconds after which a silent session ends; without a number none does.
     pub idle: Option<u64>,
-    /// So many requests a second are heard of a session at most; 0: as many as come.
+    /// The most requests a second that are heard of a session; 0 means any number.
     pub rate: u64,
 }
 

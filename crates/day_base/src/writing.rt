@@ -17,8 +17,8 @@ use site_base::{NoMemory, SiteConfig};
 use std::alloc::Global;
 use std::io::Write;
 
-/// Writes where the server listens. However it ends, a front of that line is written. `Write` comes
-/// where the writer failed in the call, or was interrupted until no turn was left.
+/// Writes where the server listens. However it ends, a prefix of that line is written. `Write` if
+/// the writer failed in the call, or was interrupted until no turn was left.
 pub fn put_listening<W: Write>(
     alloc: Global,
     port: u16,
@@ -42,8 +42,8 @@ pub fn put_listening<W: Write>(
     Ok(())
 }
 
-/// Writes where a station listens, on this port or at its doors alone, and where its page and its
-/// feed are, if it has them on a port. However it ends, a front of these lines is written.
+/// Writes where a station listens, on this port or only at its doors, and where its page and its
+/// feed are, if they have a port. However it ends, a prefix of these lines is written.
 pub fn put_places<W: Write>(
     alloc: Global,
     port: Option<u16>,
@@ -132,8 +132,8 @@ fn line_of(alloc: Global, port: u16) -> Result<String, NoMemory>
     Ok(format!(in alloc; "listening 127.0.0.1:{port}\n")?)
 }
 
-/// Writes the report of a day that is settled. However it ends, a front of it is written. `Write`
-/// comes where the writer failed in the call, or was interrupted until no turn was left.
+/// Writes the report of a settled day. However it ends, a prefix of the report is written. `Write`
+/// if the writer failed in the call, or was interrupted until no turn was left.
 pub fn put_report<W: Write>(
     alloc: Global,
     config: &SiteConfig,

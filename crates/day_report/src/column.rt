@@ -27,7 +27,7 @@ pub const COLUMNS: [Column; 6] = [
 ];
 
 impl Column {
-    /// Its title.
+    /// Returns its title.
     pub fn word(&self) -> &str
         ensures { result.now ≡ column_word self.now }
     {
@@ -41,7 +41,7 @@ impl Column {
         }
     }
 
-    /// The millilitres of a product in it.
+    /// Returns the millilitres of a product in this column.
     pub fn volume(&self, view: &ProductView) -> u64
         ensures { result ≡ volume_in self.now view.now }
     {
@@ -55,7 +55,7 @@ impl Column {
         }
     }
 
-    /// The millilitres of all products in it.
+    /// Returns the millilitres of all products in this column.
     pub fn sum(&self, views: &[ProductView]) -> u128
         ensures { result ≡ sum_in self.now views.now }
     {

@@ -27,7 +27,7 @@ impl Model for Line {
 }
 
 impl Line {
-    /// A line with this title and these figures.
+    /// Returns a line with this title and these figures.
     pub fn new(title: Vec<u8>, figures: Vec<Vec<u8>>) -> Line
         ensures title { result.title ≡ title.items }
         ensures figures { result.figures ≡ map (λ f. f.items) figures.items }
@@ -61,8 +61,8 @@ impl Line {
     }
 }
 
-/// Appends the lines in columns: the first as wide as the longest title, the others as wide as the
-/// longest figure.
+/// Appends the lines in columns. The first column is as wide as the longest title, and each other
+/// column as wide as its longest figure.
 pub fn put_table(lines: &[Line], text: &mut Vec<u8>) -> Result<(), AllocError>
     ensures { OnOk result (text.new.items ≡ text.old.items ++ table_text lines.now) }
 {

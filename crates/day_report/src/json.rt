@@ -9,9 +9,9 @@ use serde_json::{Value, json};
 use site_base::{NoMemory, ProductEntry, TillNo, Totals};
 use std::alloc::{AllocError, Global};
 
-/// The report of these totals, one object on one line: how many rows there are, of each product its
-/// figures, of each till its clears in all shifts and their cents, and how many shares settled. It
-/// sums nothing over the tills.
+/// Returns the report of these totals as one object on one line: the number of rows, the figures of
+/// each product, the clears of each till in all shifts and their cents, and how many shares
+/// settled. It sums nothing over the tills.
 pub fn report_as_json(
     alloc: Global,
     products: &[ProductEntry],

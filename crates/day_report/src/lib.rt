@@ -1,5 +1,5 @@
-//! The report of a site's figures: as text, a line for each figure; for people, in columns of
-//! litres and money; and as JSON. Each form is made of the same `Totals`, and its contract says
+//! The report of a site's figures: as text, with a line for each figure; for people, in columns of
+//! litres and money; and as JSON. Each form is made from the same `Totals`, and its contract says
 //! octet by octet what it is.
 #![tactic(auto)]
 

@@ -12,8 +12,8 @@ use itoa::Buffer;
 use site_base::{NoMemory, ProductEntry, ProductView, TillNo, Totals};
 use std::alloc::{AllocError, Global};
 
-/// The report of these totals: how many rows there are, what all tills cleared, and a table of the
-/// products' volumes, whose last line sums them.
+/// Returns the report of these totals: the number of rows, what all tills cleared, and a table of
+/// the products' volumes, whose last line has their sums.
 pub fn report_for_people(
     alloc: Global,
     products: &[ProductEntry],

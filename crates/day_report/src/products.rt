@@ -8,7 +8,7 @@ use serde_json::{Value, json};
 use site_base::{NoMemory, ProductEntry, ProductView};
 use std::alloc::{AllocError, Global};
 
-/// Each product with its figures, in configured order.
+/// Returns each product with its figures, in configured order.
 pub fn product_values(
     alloc: Global,
     products: &[ProductEntry],

@@ -5,8 +5,8 @@ ghost use Rattle.day_report.specs.Takings.{all_cents, all_clears};
 
 use site_base::TillNo;
 
-/// What all tills cleared: how many transactions, and their cents. A sum of 64-bit figures may be
-/// above 64 bits.
+/// What all tills cleared: the number of transactions, and their cents. A sum of 64-bit figures may
+/// need more than 64 bits.
 #[derive(Clone, Copy, Debug)]
 pub struct Takings {
     pub clears: u128,
@@ -14,7 +14,7 @@ pub struct Takings {
 }
 
 impl Takings {
-    /// The sums over these tills, each with its clears and their cents.
+    /// Returns the sums over these tills. Each till has its number of clears and their cents.
     pub fn of(tills: &[(TillNo, u64, u64)]) -> Takings
         ensures clears { result.clears ≡ all_clears tills.now }
         ensures cents { result.cents ≡ all_cents tills.now }

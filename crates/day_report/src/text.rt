@@ -8,9 +8,9 @@ use crate::takings::Takings;
 use site_base::{NoMemory, ProductEntry, ProductView, SiteConfig, TillNo, Totals};
 use std::alloc::Global;
 
-/// The report of these totals: how many rows there are; the clears of all tills and their cents;
-/// for each product, in configured order, its figures, of which what tests drew, the adjusted
-/// millilitres, comes last; and how many shares settled. The totals have one member for each
+/// Returns the report of these totals: the number of rows; the clears of all tills and their cents;
+/// for each product, in configured order, its figures; and how many shares settled. The last figure
+/// of a product is what tests drew, the adjusted millilitres. The totals have one member for each
 /// product of the configuration.
 pub fn report_as_text(
     alloc: Global,

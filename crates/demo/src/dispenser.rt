@@ -21,10 +21,10 @@ use std::marker::Model;
 use std::sync::Wait;
 use std::sync::ledger::Ledger;
 
-/// The meters of a dispenser: one for each nozzle that a point can have.
+/// The number of a dispenser's meters: one for each nozzle that a point can have.
 pub const METERS: usize = NOZZLES as usize;
 
-/// The simulated dispenser of one fuelling point: what its meters read, and the nozzle last lifted.
+/// The simulated dispenser of one fuelling point: what its meters read, and the last lifted nozzle.
 #[derive(Drop)]
 pub struct Dispenser {
     point: FpNo,
@@ -48,8 +48,9 @@ struct Counts {
 }
 
 impl Dispenser {
-    /// The dispenser of point p. Its meters read what the site file says, and 0 for a nozzle that
-    /// isn't there; no nozzle was lifted yet, and reports speak of nozzle 1 until one is.
+    /// Returns the dispenser of point p. Its meters read what the site file says, and 0 for a
+    /// nozzle that isn't there. No nozzle was lifted yet; until one is, its reports are of nozzle
+    /// 1.
     pub fn new(config: &SiteConfig, p: FpNo) -> Self
         ensures { IsNew config.now p METERS result }
     {
@@ -60,9 +61,9 @@ impl Dispenser {
         }
     }
 
-    /// Takes the steps of a script, in order. Each step but one that waits is a report of this
-    /// dispenser through the share; a refused one is counted, and what it read isn't kept. The run
-    /// ends where a report makes no row, and where a step looks `polls` times at the point without
+    /// Carries out the steps of a script, in order. Each step except a wait is a report of this
+    /// dispenser through the share. A refused report is counted, and its reading isn't kept. The
+    /// run ends if a report makes no row, or if a step looks at the point `polls` times without
     /// seeing the state that it waits for. The share comes back on every path.
     pub fn run<L: Ledger, C: Naming, R: Wait>(
         &mut self,

@@ -44,7 +44,7 @@ impl Model for Draft {
 }
 
 impl Draft {
-    /// Nothing was read yet. It takes no memory.
+    /// Returns a draft of which nothing was read yet. It takes no memory.
     pub fn new(alloc: Global) -> Self
         ensures { result ≡ nothing_read }
     {
@@ -56,7 +56,7 @@ impl Draft {
         }
     }
 
-    /// What a line says; None where it is faulty.
+    /// Returns what a line says; None if it is faulty.
     pub fn line_of(&self, octets: &[u8]) -> Result<Option<Line>, NoMemory>
         ensures found { IfOk result (λ found.
             IfSome found (λ line. Says self.now octets.now line)) }
@@ -120,7 +120,7 @@ impl Draft {
         self.ended.len() < SECTIONS - open
     }
 
-    /// A line has said this. After `NoMemory` the draft is of no use.
+    /// Adds what a line says. After `NoMemory` the draft can't be used any more.
     pub fn add(&mut self, line: Line) -> Result<(), NoMemory>
         ensures { OnOk result (self.new ≡ with_line line self.old) }
     {
@@ -183,7 +183,7 @@ impl Draft {
         Ok(())
     }
 
-    /// The setup, and all sections.
+    /// Returns the setup, and all sections.
     pub fn into_parts(self) -> Result<(Vec<(Actor, Event)>, Vec<Section>), NoMemory>
         ensures setup { IfOk result (λ parts. parts.0.items ≡ self.setup) }
         ensures sections { IfOk result (λ parts. parts.1.items ≡ sections_of self) }

@@ -18,7 +18,7 @@ pub enum DispenserFault {
     /// An allocation failed.
     #[error("no memory")]
     NoMemory,
-    /// The point wasn't seen in the state that a step waits for, in as many looks as there may be.
+    /// The point wasn't seen in the state that a step waits for, in as many looks as allowed.
     #[error("the polls are spent")]
     PollsSpent,
 }
@@ -34,7 +34,7 @@ impl DispenserFault {
         }
     }
 
-    /// Its number: 30, 31 or 65.
+    /// Returns its number: 30, 31 or 65.
     pub fn number(self) -> u8
         ensures { result ≡ dispenser_fault_number self }
     {
@@ -49,12 +49,12 @@ impl DispenserFault {
 /// How a run ended. It has the share that the run was lent, which can't be dropped.
 #[must_use]
 pub struct DispenserEnd<L: Ledger, C: Naming> {
-    /// The share, with a receipt for each report of the run behind those that it had.
+    /// The share. After the receipts that it had, it has one for each report of the run.
     pub share: Share<L, C>,
     /// How many reports were answered with a sale.
     pub sold: u64,
     /// How many reports were refused.
     pub refused: u64,
-    /// Why it ended before its script did; None where it didn't.
+    /// Why it ended before its script did; None if it didn't.
     pub fault: Option<DispenserFault>,
 }

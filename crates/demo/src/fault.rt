@@ -8,8 +8,8 @@ use thiserror::Error;
 /// Why a script can't be read.
 #[derive(Clone, Copy, Debug, PartialEq, Eq, Error)]
 pub enum ScriptFault {
-    /// The line of this number, counted from 1, is the first faulty one. Where the text has no
-    /// section and no faulty line it is the last line's number, 0 where there is no line.
+    /// The line of this number, counted from 1, is the first faulty one. If the text has no section
+    /// and no faulty line, it is the last line's number, or 0 if there is no line.
     #[error("script line {0}")]
     Line(u64),
     /// An allocation failed.

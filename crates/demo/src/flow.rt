@@ -10,9 +10,9 @@ use site_base::{
     Cents, GREATEST_READING, Millilitres, Mills, PointState, PointView, Preset, greatest_ml,
 };
 
-/// How much flows where so much was asked for, the meter reads this, and the point was last seen so
-/// (None: it isn't there): as much as was asked for, cut to the room that is left under the preset
-/// of a fuelling under way, and to what the meter can still count.
+/// Returns how much flows if `asked` was asked for, the meter reads `reading`, and the point was
+/// last seen as `seen` (None: there is no such point). It is as much as was asked for, limited by
+/// what is left under the preset of a fuelling in progress, and by what the meter can still count.
 pub fn flow_of(asked: Millilitres, reading: Millilitres, seen: &Option<PointView>) -> u64
     ensures { IsFlow asked reading seen.now result }
 {

@@ -1,13 +1,14 @@
-//! Demos: scripts, and the simulated dispensers that take their steps.
+//! Demos: scripts, and the simulated dispensers that carry them out.
 //!
 //! A script is a text that sets a site up, and then has sections, each the work of one till or of
 //! one simulated dispenser. `read_script` accepts exactly the texts that `specs/Script.antt` calls
-//! scripts, want of memory aside, and tells the number of the first faulty line of any other.
+//! scripts, unless memory runs out. For any other text it returns the number of the first faulty
+//! line.
 //!
-//! A `Dispenser` is one fuelling point's pump head: it keeps a reading for each nozzle, and takes
-//! the steps of a script at a counter desk, as a dispenser on a forecourt would. A preset cuts its
-//! flow, a refused report doesn't move its readings, and the share that it works through comes back
-//! on every path, with a receipt for each report.
+//! A `Dispenser` is the pump head of one fuelling point. It keeps a reading for each nozzle, and
+//! carries out the steps of a script at a counter desk, as a dispenser on a forecourt would. A
+//! preset limits its flow, and a refused report doesn't move its readings. The share through which
+//! it works comes back on every path, with a receipt for each report.
 #![tactic(auto)]
 
 mod dispenser;

@@ -3,7 +3,7 @@
 /// The most sections of a script.
 pub const SECTIONS: usize = 15;
 
-/// The most looks that a dispenser may have at its point where it waits for a state.
+/// The most looks of a dispenser at its point while it waits for a state.
 pub const GREATEST_POLLS: u32 = 1_000_000;
 
 /// The most millilitres that a line may ask a dispenser to pump.

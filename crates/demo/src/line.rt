@@ -11,8 +11,8 @@ pub enum Line {
     Skipped,
     /// The section of a till begins.
     Till,
-    /// The section of a dispenser begins: its point, and how often it may look at it where it
-    /// waits.
+    /// The section of a dispenser begins: its point, and how often the dispenser may look at it
+    /// while it waits.
     Dispenser(FpNo, u64),
     /// A call of the setup.
     Call(Actor, Event),

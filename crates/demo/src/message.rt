@@ -10,8 +10,8 @@ use hex_lines::{LineText, read_octets};
 use site_base::NoMemory;
 use std::alloc::Global;
 
-/// The message that the text is in hexadecimal, where spaces don't count; None where it isn't one
-/// whole message.
+/// Returns the message that the text is in hexadecimal, where spaces don't count; None if it isn't
+/// one whole message.
 pub fn message_of(alloc: Global, text: &[u8]) -> Result<Option<Message>, NoMemory>
     ensures found { IfOk result (λ found. IfSome found (λ m. IsMessageText text.now m)) }
     ensures other { IfOk result (λ found.

@@ -29,14 +29,14 @@ impl Model for DemoScript {
 }
 
 impl DemoScript {
-    /// The calls of the setup, in their order.
+    /// Returns the calls of the setup, in their order.
     pub fn setup(&self) -> &[(Actor, Event)]
         ensures { result.now ≡ self.now.setup }
     {
         &self.setup
     }
 
-    /// The sections, in their order.
+    /// Returns the sections, in their order.
     pub fn sections(&self) -> &[Section]
         ensures { result.now ≡ self.now.sections }
     {
@@ -44,9 +44,9 @@ impl DemoScript {
     }
 }
 
-/// The demo that the text is a script of. `Line` has the number of the first faulty line, counted
-/// from 1; where there is none, and no section either, it is the number of the last line, 0 for an
-/// empty text. `NoMemory` comes where an allocation fails.
+/// Reads a text as the script of a demo. `Line` has the number of the first faulty line, counted
+/// from 1. If there is neither a faulty line nor a section, it is the number of the last line, 0
+/// for an empty text. `NoMemory` if an allocation fails.
 pub fn read_script(alloc: Global, text: &[u8]) -> Result<DemoScript, ScriptFault>
     ensures script { IfOk result (λ demo. IsScript text.now demo) }
     ensures one { IfOk result (λ demo.

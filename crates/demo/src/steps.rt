@@ -1,4 +1,4 @@
-//! Scripts: what a simulated dispenser is to do.
+//! Scripts: what a simulated dispenser does.
 
 ghost use Rattle.std.specs.Prelude.{◌≡◌, [], ◌∷◌, ◌++◌, OnErr, OnOk};
 
@@ -14,9 +14,9 @@ pub enum Step {
     Offline,
     /// This nozzle is taken out.
     Lift(NozzleNo),
-    /// So much more is to flow by the nozzle last lifted, as far as the preset lets it.
+    /// This much more flows through the last lifted nozzle, as far as the preset allows it.
     Pump(Millilitres),
-    /// The nozzle last lifted is put back.
+    /// The last lifted nozzle is put back.
     HangUp,
     /// Nothing happens until the point is seen in this state.
     WaitFor(PointState),
@@ -38,7 +38,7 @@ impl Model for Script {
 }
 
 impl Script {
-    /// The script of these steps. It takes no memory.
+    /// Returns the script of these steps. It takes no memory.
     pub fn new(steps: Vec<Step>) -> Self
         ensures { result ≡ steps.items }
     {
@@ -54,7 +54,7 @@ impl Script {
         Ok(())
     }
 
-    /// Its steps.
+    /// Returns its steps.
     pub fn steps(&self) -> &[Step]
         ensures { result.now ≡ self.now }
     {

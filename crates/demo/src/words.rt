@@ -15,7 +15,7 @@ use crate::steps::Step;
 use forecourt_engines::number::{is_word, number_behind, split_at_octet, strip_word};
 use site_base::{FpNo, Millilitres, NOZZLES, NozzleNo, POINTS, PointState};
 
-/// The section that the text begins: `till`, or `dispenser P POLLS`.
+/// Returns the section that the text begins: `till`, or `dispenser P POLLS`.
 pub fn section_begun(text: &[u8]) -> Option<Line>
     ensures found { IfSome result (λ line. Begins text.now line) }
     ensures other { IfNone result ((line : Line) → ¬ Begins text.now line) }
@@ -27,7 +27,7 @@ pub fn section_begun(text: &[u8]) -> Option<Line>
     Some(Line::Dispenser(p, polls))
 }
 
-/// The step that the text says.
+/// Returns the step that the text says.
 pub fn step_of(text: &[u8]) -> Option<Step>
     ensures found { IfSome result (λ step. IsStepText text.now step) }
     ensures other { IfNone result ((step : Step) → ¬ IsStepText text.now step) }

@@ -18,8 +18,8 @@ use std::sync::Wait;
 use std::thread::Threads;
 use unmarked_input::skip_mark;
 
-/// Runs the demo of a script, and prints its report. The site file's faults come before the
-/// script's.
+/// Runs the demo of a script, and prints its report. Faults of the site file are reported before
+/// those of the script.
 pub fn run_demo<R, T>(rt: &R, threads: &T, options: DemoOptions<'_>) -> ExitCode
 where
     R: Files + Net<Listener = TcpListener, Stream = TcpStream> + Print + Eprint + AllocGlobal,

@@ -1,7 +1,7 @@
 //! The commands that open a desk for a day: `serve` and `demo`.
 //!
-//! Each `run_..` takes what the command line says, reads the site file, runs the day and gives the
-//! status that the program exits with. What a day is stands in `desk_days`.
+//! Each `run_..` takes what the command line says, reads the site file, runs the day and returns
+//! the exit status. What a day does is in `desk_days`.
 #![tactic(auto)]
 
 mod demo_command;

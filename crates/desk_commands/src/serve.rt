@@ -13,8 +13,8 @@ use std::rt::Files;
 use std::sync::Wait;
 use std::thread::Threads;
 
-/// Serves a known number of sessions, and prints the report of the day. Wrong numbers come before
-/// the site file, and its faults before the server's.
+/// Serves a known number of sessions, and prints the report of the day. Wrong numbers are reported
+/// first, then faults of the site file, then faults of the server.
 pub fn run_serve<R, T>(rt: &R, threads: &T, options: ServeOptions<'_>) -> ExitCode
 where
     R: Files + Net<Listener = TcpListener, Stream = TcpStream> + Print + Eprint + AllocGlobal,

@@ -6,7 +6,7 @@ use site_base::NoMemory;
 use std::alloc::Global;
 use std::net::TcpStream;
 
-/// Sends each message, and reads its reply before the next one is sent. It ends early where the
+/// Sends each message, and reads its reply before it sends the next one. It ends early if the
 /// connection does.
 pub fn send_all(alloc: Global, stream: TcpStream, messages: &Messages, turns: u64) {
     let mut stream = Counted::new(stream);

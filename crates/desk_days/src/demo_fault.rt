@@ -6,15 +6,15 @@ use site_base::NoMemory;
 use std::sync::ledger::Ledger;
 use thiserror::Error;
 
-/// Why a demo isn't settled. A single worker's fault ends its own work alone, but for one that
+/// Why a demo isn't settled. A single worker's fault ends only its own work, unless the worker
 /// couldn't be started or connected.
 #[derive(Clone, Copy, Debug, PartialEq, Eq, Error)]
 pub enum DemoFault {
     /// An allocation failed.
     #[error("fault 31")]
     NoMemory,
-    /// It isn't settled: the receipt of this place is strange, or a share is out, and there are so
-    /// many rows.
+    /// It isn't settled: the receipt of this place is strange, or a share is out, and this is the
+    /// number of rows.
     #[error("unsettled 60 place {0}")]
     Unsettled(u64),
     /// It can't listen, or a connection couldn't be made.

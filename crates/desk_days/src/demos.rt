@@ -25,13 +25,13 @@ use std::sync::ledger::{Blank, Ledger};
 use std::sync::{Mutex, Wait};
 use std::thread::Threads;
 
-/// How a demo is run: its tills' sessions over memory, or over sockets; each session has so many
-/// turns.
+/// How a demo is run: with its tills' sessions in memory or over sockets, and with how many turns
+/// for each session.
 #[derive(Clone, Copy, Debug, PartialEq, Eq)]
 pub struct DemoPlan {
     /// Do the tills' sessions run over sockets?
     pub loopback: bool,
-    /// The read calls and interrupted write calls of a session.
+    /// The most read calls and interrupted write calls of a session.
     pub turns: u64,
 }
 
@@ -44,10 +44,10 @@ pub struct DemoEnd {
     pub settled: Settled,
 }
 
-/// Runs the demo of a script on the site of this configuration, writes the report of what was
-/// settled, and answers with it. The interrupted calls of the report's write take `turns`. However
-/// it ends, what it wrote is a front of that report. `Write` comes where the writer failed in the
-/// call, or was interrupted until no turn was left.
+/// Runs the demo of a script on the site of this configuration, and writes the report of what was
+/// settled. Returns how it ended. The interrupted calls of the report's write take `turns`. However
+/// it ends, what it wrote is a prefix of that report. `Write` if the writer failed in the call, or
+/// was interrupted until no turn was left.
 pub fn demo_day<
     W: Write,
     N: Net<Listener = TcpListener, Stream = TcpStream>,
@@ -81,17 +81,16 @@ pub fn demo_day<
 }
 
 /// Runs the demo of a script on the site of this configuration. One worker makes the calls of the
-/// setup, and leaves the tills that it owes; then the sections are worked at side by side, each by
-/// a worker with a share of its own (over sockets a till's section has a client, and the tills'
-/// sessions are drawn by a server's workers, at most 16, each with a share), and the desk is
-/// settled. What ends one worker's work early doesn't end the demo, but `NoWorker` where one
-/// couldn't be started, and `NoConnection` where a socket couldn't be had.
+/// setup, and signs off the tills to which it owes that. Then the sections are worked through in
+/// parallel, each by a worker with its own share. (Over sockets a till's section has a client, and
+/// the tills' sessions are drawn by a server's workers, at most 16, each with a share.) Last, the
+/// desk is settled. A fault that ends one worker's work early doesn't end the demo. `NoWorker` if a
+/// worker couldn't be started, and `NoConnection` if there was no socket.
 ///
-/// What is settled ends with the receipts of the setup's worker, which did the setup's calls, all
-/// of them where its end has no fault. Of
-/// the sections' receipts a contract can't say more than that they add up with these: their shares
-/// come back through the root's lock, which forgets all but its type. What each worker does through
-/// its share stands at `work_through` (`IsWorkedAt`).
+/// What is settled ends with the receipts of the setup's worker, which made the setup's calls, all
+/// of them if its end has no fault. Of the sections' receipts a contract can only say that they add
+/// up with these: their shares come back through the root's lock, of which only its type is known.
+/// `work_through` says what each worker does through its share (`IsWorkedAt`).
 pub fn demo<N: Net<Listener = TcpListener, Stream = TcpStream>, R: Threads + Wait + Sync>(
     net: &N,
     rt: &R,

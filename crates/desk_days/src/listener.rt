@@ -10,7 +10,7 @@ use std::sync::Arc;
 use till_session::{Accept, NoConnection};
 
 /// A listener on 127.0.0.1. Each connection is read and written by two halves of one socket, which
-/// doesn't hold small messages back.
+/// sends small messages at once.
 #[derive(Drop)]
 pub struct Loopback {
     listener: TcpListener,
@@ -19,8 +19,7 @@ pub struct Loopback {
 }
 
 impl Loopback {
-    /// Listens on this port of 127.0.0.1, on a free one where it is 0. `Deaf` where that
-    /// can't be.
+    /// Listens on this port of 127.0.0.1. Port 0 means a free one. `Deaf` if it can't listen there.
     pub fn bind<R: Net<Listener = TcpListener, Stream = TcpStream>>(
         rt: &R,
         port: u16,
@@ -37,7 +36,7 @@ impl Loopback {
         }
     }
 
-    /// The port on which it listens.
+    /// Returns the port on which it listens.
     pub fn port(&self) -> u16
         ensures { result ≡ self.now.port }
     {

@@ -1,4 +1,4 @@
-//! Sections worked at side by side, with the sessions of tills over sockets.
+//! Sections that are worked through in parallel, with the sessions of tills over sockets.
 
 ghost use Rattle.std.specs.Prelude.{◌≤◌, ◌+◌, vec_capacity, vec_len};
 
@@ -28,9 +28,9 @@ enum Part<'a> {
     Client(&'a Messages, TcpStream),
 }
 
-/// Works at the sections side by side. A dispenser's has a worker with a share of its own; a till's
-/// has a client, whose session is served on a free port of 127.0.0.1 by the worker that draws it.
-/// All clients are connected before the first session is served.
+/// Works through the sections in parallel. A dispenser's section has a worker with its own share. A
+/// till's section has a client, whose session is served on a free port of 127.0.0.1 by the worker
+/// that draws it. All clients are connected before the first session is served.
 pub fn run_over_loopback<
     N: Net<Listener = TcpListener, Stream = TcpStream>,
     L: Ledger + Send + Sync,

@@ -1,4 +1,4 @@
-//! Sections worked at side by side, with the sessions of tills over memory.
+//! Sections that are worked through in parallel, with the sessions of tills in memory.
 
 ghost use Rattle.std.specs.Prelude.{◌+◌, ◌≤◌, length, vec_capacity, vec_len};
 
@@ -14,7 +14,7 @@ use std::sync::{Mutex, Wait};
 use std::thread;
 use std::thread::{Scope, Threads};
 
-/// Works at the sections side by side, each by a worker and through a share of its own.
+/// Works through the sections in parallel, each by a worker with its own share.
 pub fn run_over_memory<L: Ledger + Send + Sync, C: Naming + Send + Sync, R: Threads + Wait + Sync>(
     rt: &R,
     alloc: Global,

@@ -1,4 +1,4 @@
-//! One section, worked at through a share of its own.
+//! One section, worked through with its own share.
 
 ghost use Rattle.std.specs.Prelude.{◌≡◌, [], ◌∷◌, ◌++◌, IfOk, OnErr};
 ghost use Rattle.desk_days.specs.Sections.{AreServed, IsWorkedAt, octets_of};
@@ -29,8 +29,9 @@ enum SectionEnd {
     },
 }
 
-/// Takes a share, works at a section, and hands the share back. Without memory for a share the
-/// section isn't worked at. No clause can say what the root is given: its lock forgets it.
+/// Takes a share, works through a section, and hands the share back. If there is no memory for a
+/// share, it does nothing. No clause can say what the root is given: of its lock only the type is
+/// known.
 pub fn work_at<L: Ledger, C: Naming, R: Wait>(
     rt: &R,
     alloc: Global,

@@ -20,12 +20,12 @@ use till_session::serve;
 /// How many shares a desk of a day may give.
 pub const PARTS: u64 = 1 << 63;
 
-/// A day of a server on the site of this configuration, which listens already: it writes where,
-/// serves as many sessions as the plan says, each with so many turns, settles, writes the report of
-/// what was settled, and answers with it. What it writes itself takes its turns from those that are
-/// handed in. However it ends, what it wrote is a front of that. `Write` comes where the writer
-/// failed in the call, or was interrupted until no turn was left. It listens before the desk opens,
-/// and says where afterwards, so nobody is told of a port that isn't served.
+/// Runs the day of a server on the site of this configuration, which listens already. It writes
+/// where it listens, serves as many sessions as the plan says, each with this many turns, settles,
+/// and writes the report of what was settled. Returns what was settled. Its own writes take their
+/// turns from `turns`. However it ends, what it wrote is a prefix of that text. `Write` if the
+/// writer failed in the call, or was interrupted until no turn was left. It listens before the desk
+/// opens, and says where afterwards, so it never names a port that isn't served.
 pub fn serve_day<W: Write, R: Threads + Wait + Sync>(
     rt: &R,
     alloc: Global,

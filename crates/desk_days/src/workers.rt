@@ -6,7 +6,7 @@ use site_base::NoMemory;
 use std::alloc::Global;
 use std::thread::{Promise, PromisedHandle, Threads};
 
-/// What a worker promises: nothing, since what it did stands at the desk.
+/// What a worker promises: nothing, because the desk has what it did.
 #[derive(Clone, Copy)]
 pub struct Anything;
 
@@ -17,7 +17,7 @@ impl Promise<()> for Anything {
 /// A worker's thread.
 pub type Worker = PromisedHandle<(), Anything>;
 
-/// An empty list with room for so many.
+/// Returns an empty list with room for this many.
 pub fn room_for<T>(alloc: Global, count: usize) -> Result<Vec<T>, NoMemory>
     ensures empty { IfOk result (λ list. vec_len list ≡ 0) }
     ensures room { IfOk result (λ list. count ≤ vec_capacity list) }
@@ -25,7 +25,7 @@ pub fn room_for<T>(alloc: Global, count: usize) -> Result<Vec<T>, NoMemory>
     Ok(Vec::with_capacity(alloc, count)?)
 }
 
-/// Waits for workers.
+/// Waits for the ends of workers.
 pub fn join_all<R: Threads>(rt: &R, workers: Vec<Worker>) {
     for worker in workers {
         worker.join(rt);

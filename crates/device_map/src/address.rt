@@ -13,19 +13,19 @@ use site_base::{FpNo, ProductNo};
 /// A database of the site.
 #[derive(Clone, Copy)]
 pub enum Database {
-    /// The site's own.
+    /// The database of the site.
     Site,
-    /// A fuelling point's.
+    /// The database of a fuelling point.
     Point(FpNo),
-    /// That of a transaction of a fuelling point, by its digits as they came. Whether they are
-    /// decimal is judged after the items of the request, and before the widths of these.
+    /// The database of a transaction of a fuelling point, by its digits as they came. Whether these
+    /// are decimal is checked after the items of the request, and before the items' widths.
     Transaction(FpNo, SaleDigits),
-    /// A product's.
+    /// The database of a product.
     Product(ProductNo),
 }
 
 impl Database {
-    /// The database that this address names.
+    /// Returns the database that this address names.
     #[tactic(auto, unfolding(crate::specs::Addresses::database_at))]
     pub fn at(address: &[u8]) -> Result<Database, MapFault>
         ensures { Gives result (database_at address.now) }

@@ -1,4 +1,4 @@
-//! Changes: what dispensers are told.
+//! Changes: the notices to dispensers.
 
 ghost use Rattle.std.specs.Prelude.{◌≡◌, ◌<◌, [], ◌∷◌, Some, None, IfOk, IfSome};
 ghost use Rattle.app_message.specs.Telegram.{entry};
@@ -14,9 +14,9 @@ use app_message::{Draft, Kind, Message, MessageFault, Token};
 use site_base::{Event, FpNo, NoMemory, Preset, Row, TillNo};
 use std::alloc::Global;
 
-/// The message that tells the dispenser of a fuelling point of a change: a command that was
+/// Returns the notice of a change to the dispenser of a fuelling point: of a command that was
 /// accepted and moves the point. It is a notice from the site with token 0, the point's address and
-/// the items of the command's request. Other rows stand for no change.
+/// the items of the command's request. Returns None for any other row.
 pub fn change_of(alloc: Global, row: &Row) -> Result<Option<Message>, NoMemory>
     ensures { IfOk result (λ change. change ≡ change_of row.now) }
 {
@@ -51,8 +51,8 @@ fn change_by(alloc: Global, event: Event) -> Result<Option<Message>, NoMemory>
     }
 }
 
-/// The event of the change that a message tells, if it tells one: of an event that is answered the
-/// message is just the profile's change.
+/// Returns the event of the change in a message, if it has one. Then the message is exactly the
+/// protocol's for that change.
 pub fn decode_change(alloc: Global, message: &Message) -> Result<Option<Event>, NoMemory>
     ensures { IfOk result (λ told. IfSome told (λ event. change_by event ≡ Some message.now)) }
 {

@@ -9,8 +9,8 @@ ghost use Rattle.device_map.specs.Ways.{digits_of};
 use crate::fault::MapFault;
 use site_base::{GREATEST_SEQ, GREATEST_SHIFT, SaleId, Seq, ShiftNo};
 
-/// Four digits as an address has them, two to an octet. They stand as they came: whether they are
-/// decimal is judged later.
+/// Four digits as an address has them, two to an octet. They are as they came: whether they are
+/// decimal is checked later.
 #[derive(Clone, Copy)]
 pub struct Digits {
     /// The thousands and the hundreds.
@@ -19,17 +19,17 @@ pub struct Digits {
     pub low: u8,
 }
 
-/// The digits by which an address names a transaction of a fuelling point, as they came.
+/// The digits with which an address names a transaction of a fuelling point, as they came.
 #[derive(Clone, Copy)]
 pub struct SaleDigits {
-    /// Those of its shift; None where the address means the open one.
+    /// The digits of its shift; None if the address means the open one.
     pub shift: Option<Digits>,
-    /// Those of its number.
+    /// The digits of its number.
     pub seq: Digits,
 }
 
 impl SaleDigits {
-    /// The sale that they name.
+    /// Returns the sale that they name, or `BadDecimal`.
     #[tactic(auto, unfolding(crate::specs::Decimal::sale_named))]
     pub fn sale(self) -> Result<SaleId, MapFault>
         ensures { Gives result (sale_named self) }
@@ -50,14 +50,14 @@ impl SaleDigits {
 }
 
 impl Digits {
-    /// The digits in these two octets.
+    /// Returns the digits in these two octets.
     pub fn new(high: u8, low: u8) -> Self
         ensures { result ≡ record { high = high; low = low } }
     {
         Digits { high, low }
     }
 
-    /// Those of a number.
+    /// Returns the digits of a number.
     pub fn of(number: u16) -> Self
         ensures { result ≡ digits_of number }
     {
@@ -83,7 +83,7 @@ impl Digits {
         }
     }
 
-    /// The sequence number that they make.
+    /// Returns the sequence number that they make, or `BadDecimal`.
     #[tactic(auto, unfolding(crate::specs::Decimal::decimal_in))]
     pub fn seq(self) -> Result<Seq, MapFault>
         ensures { Gives result (decimal_in GREATEST_SEQ self) }
@@ -127,7 +127,7 @@ fn two_digits(octet: u8) -> u16
     u16::from(octet / 16) * 10 + u16::from(octet % 16)
 }
 
-/// A sequence number as four decimal digits, packed two to an octet.
+/// Returns a sequence number as four decimal digits, packed two to an octet.
 pub fn packed_digits(number: u16) -> u16
     requires { number ≤ GREATEST_SEQ }
     ensures { result ≡ pack_digits number }

@@ -1,4 +1,4 @@
-//! Replies read back from their messages.
+//! Reads replies back from their messages.
 
 ghost use Rattle.std.specs.Prelude.{◌≡◌, IfOk, IfSome};
 ghost use Rattle.device_map.specs.Replies.{told_message, told_number};
@@ -14,8 +14,8 @@ use site_base::{
 };
 use std::alloc::Global;
 
-/// The reply that a message from the site tells, if it tells one: of a reply that is answered the
-/// message is just the profile's.
+/// Returns the reply in a message from the site, if it has one. Then the message is exactly the
+/// protocol's for that reply.
 pub fn decode_reply(alloc: Global, message: &Message) -> Result<Option<Reply>, NoMemory>
     ensures { IfOk result (λ told. IfSome told
         (λ reply. message.now ≡ told_message message.now reply)) }
@@ -32,8 +32,8 @@ pub fn decode_reply(alloc: Global, message: &Message) -> Result<Option<Reply>, N
     }
 }
 
-/// The number that a message from the site tells in place of a reply, if it tells one: of a number
-/// that is answered the message is just the profile's.
+/// Returns the number that a message from the site has in place of a reply, if it has one. Then the
+/// message is exactly the protocol's for that number.
 pub fn decode_number(alloc: Global, message: &Message) -> Result<Option<u8>, NoMemory>
     ensures { IfOk result (λ told. IfSome told
         (λ number. message.now ≡ told_number message.now number)) }

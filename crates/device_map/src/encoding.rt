@@ -17,8 +17,9 @@ use app_message::{Draft, Kind, Message, Token};
 use site_base::{Actor, Event, NoMemory};
 use std::alloc::Global;
 
-/// The request of an actor for an event, with this token: the one message that asks so. None where
-/// the event isn't of the actor's kind: a till doesn't report, and a dispenser does nothing else.
+/// Returns the request of an actor for an event, with this token: the only message that asks for it
+/// so. None if the event isn't of the actor's kind: a till doesn't report, and a dispenser does
+/// nothing else.
 pub fn encode_request(
     alloc: Global,
     token: Token,

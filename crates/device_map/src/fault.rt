@@ -5,7 +5,8 @@ ghost use Rattle.device_map.specs.Faults.{map_number};
 
 use thiserror::Error;
 
-/// Why a message means no event. Of several faults the first in this order is told; no row is made.
+/// Why a message means no event. If it has several faults, the first in this order is returned. No
+/// row is made.
 #[derive(Clone, Copy, Debug, PartialEq, Eq, Error)]
 pub enum MapFault {
     /// It is an Answer, a Notice or an Ack.
@@ -17,13 +18,13 @@ pub enum MapFault {
     /// A Read or Write comes from no till, or a Report from no dispenser.
     #[error("the originator may not ask this")]
     BadOriginator,
-    /// The address is of no database, or of one without requests of this kind.
+    /// The address names no database, or one without requests of this kind.
     #[error("there is no such database for this kind of message")]
     BadAddress,
     /// An item that doesn't belong to the request, or a first item that is no command.
     #[error("an item doesn't belong to the request")]
     UnknownItem,
-    /// An item of the request isn't there.
+    /// An item of the request is missing.
     #[error("an item is missing")]
     ItemMissing,
     /// In a transaction's address a digit is above 9, the number is 0000, or the shift is 0000 or
@@ -36,7 +37,7 @@ pub enum MapFault {
 }
 
 impl MapFault {
-    /// The number that a reply tells: 50 to 58.
+    /// Returns the number in a reply: 50 to 58.
     pub fn number(self) -> u8
         ensures { result ≡ map_number self }
     {

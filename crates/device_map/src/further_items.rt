@@ -1,6 +1,6 @@
-//! What stands behind a command, or in a read. Which items are there is judged first, then their
-//! widths and the ranges of their numbers. Identifiers rise, so a listed item that isn't the next
-//! one isn't there, and what is left over is unknown (53).
+//! Reads what follows a command, or what a read carries. First it checks which items there are,
+//! then their widths and the ranges of their numbers. Identifiers rise. So a listed item is missing
+//! if it isn't the next one, and what is left over is unknown (53).
 
 ghost use Rattle.std.specs.Prelude.{◌≡◌};
 ghost use Rattle.device_map.specs.Stages.{Gives};
@@ -13,7 +13,7 @@ use crate::ids;
 use app_message::{Item, Items};
 use site_base::{Millilitres, NozzleNo, Preset, SaleId};
 
-/// Nothing.
+/// Checks that nothing follows.
 pub fn expect_nothing(items: Items<'_>) -> Result<(), MapFault>
     ensures { Gives result (items_end items.entry) }
 {
@@ -24,7 +24,7 @@ pub fn expect_nothing(items: Items<'_>) -> Result<(), MapFault>
     }
 }
 
-/// A preset volume, or preset money, or nothing.
+/// Reads a preset volume, or preset money, or nothing.
 #[tactic(auto, unfolding(crate::specs::Further::preset_in))]
 pub fn preset(mut items: Items<'_>) -> Result<Preset, MapFault>
     ensures { Gives result (preset_in items.entry) }
@@ -42,7 +42,7 @@ pub fn preset(mut items: Items<'_>) -> Result<Preset, MapFault>
     }
 }
 
-/// Preset money.
+/// Reads preset money.
 #[tactic(auto, unfolding(crate::specs::Further::money_in))]
 pub fn money(mut items: Items<'_>) -> Result<u32, MapFault>
     ensures { Gives result (money_in items.entry) }
@@ -54,7 +54,7 @@ pub fn money(mut items: Items<'_>) -> Result<u32, MapFault>
     four_octets(money.content())
 }
 
-/// A nozzle and the reading of its meter.
+/// Reads a nozzle and the reading of its meter.
 #[tactic(auto, unfolding(crate::specs::Further::meter_in))]
 pub fn meter(mut items: Items<'_>) -> Result<(NozzleNo, Millilitres), MapFault>
     ensures { Gives result (meter_in items.entry) }
@@ -74,7 +74,7 @@ pub fn meter(mut items: Items<'_>) -> Result<(NozzleNo, Millilitres), MapFault>
     Ok((nozzle, reading))
 }
 
-/// Nothing, and a sale that the address names.
+/// Checks that nothing follows, and reads the sale that the address names.
 #[tactic(auto, unfolding(crate::specs::Further::sale_in))]
 pub fn sale(digits: SaleDigits, items: Items<'_>) -> Result<SaleId, MapFault>
     ensures { Gives result (sale_in digits items.entry) }
@@ -83,7 +83,7 @@ pub fn sale(digits: SaleDigits, items: Items<'_>) -> Result<SaleId, MapFault>
     digits.sale()
 }
 
-/// The number of a content of four octets.
+/// Returns the number in a content of four octets.
 pub fn four_octets(content: &[u8]) -> Result<u32, MapFault>
     ensures { Gives result (four_octets_in content.now) }
 {

@@ -1,4 +1,4 @@
-//! Subnets, addresses and data identifiers of the profile, each written once.
+//! Subnets, addresses and data identifiers of the protocol, each written once.
 
 /// The subnet and the node of the site.
 pub const SITE_SUBNET: u8 = 0x01;
@@ -17,11 +17,10 @@ pub const SITE_ADDRESS: u8 = 0x01;
 /// What is added to a fuelling point's number in its address.
 pub const POINT_ADDRESS: u8 = 0x20;
 
-/// What stands behind a fuelling point's address where one of its transactions of the open shift is
-/// named.
+/// What follows a fuelling point's address that names one of its transactions of the open shift.
 pub const TRANSACTION_FORM: u8 = 0x21;
 
-/// What stands there where a transaction is named with its shift.
+/// What follows a fuelling point's address that names a transaction with its shift.
 pub const SHIFT_FORM: u8 = 0x22;
 
 /// What is added to a product's number in its address.

@@ -1,4 +1,4 @@
-//! Items, put into a message.
+//! Writes items into a message.
 
 ghost use Rattle.std.specs.Prelude.{◌≡◌, ◌≤◌, [], ◌∷◌, length, OnOk};
 ghost use Rattle.app_message.specs.Telegram.{entry};

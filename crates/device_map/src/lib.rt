@@ -1,11 +1,10 @@
-//! Messages and events: which event a message asks for, and which message tells a reply.
+//! Messages and events: which event a message asks for, and which message answers with a reply.
 //!
-//! `request_of` answers the pair of actor and event that a request means, or its first fault;
-//! `encode_request` makes the one request that asks for an event.
-//! `reply_of`, `refusal_of` and `stream_refusal` make the message that goes back, `change_of` the
-//! one that a dispenser is told.
+//! `request_of` returns the actor and the event that a request means, or its first fault.
+//! `encode_request` makes the one request that asks for an event. `reply_of`, `refusal_of` and
+//! `stream_refusal` make the message that goes back, `change_of` the notice to a dispenser.
 //!
-//! The requests stand in one table, `specs/Commands.antt`, each with the shape of what it carries:
+//! The requests are in one table, `specs/Commands.antt`, each with the shape of what it carries:
 //! `request.rt` has an arm for each request, `further_items.rt` a function for each shape. Worked
 //! messages, by their octets, are theorems of the definitions that the contracts cite:
 //! `proofs/WorkedRequests.antt`, `WorkedReplies.antt` and `WorkedChanges.antt`.

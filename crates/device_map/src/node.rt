@@ -11,28 +11,28 @@ use crate::ids::{DISPENSER_SUBNET, SITE_NODE, SITE_SUBNET, TILL_SUBNET};
 use app_message::Kind;
 use site_base::{Actor, FpNo, TillNo};
 
-/// Subnet and node of the site.
+/// Returns subnet and node of the site.
 pub fn site() -> [u8; 2]
     ensures { result ≡ site_node }
 {
     [SITE_SUBNET, SITE_NODE]
 }
 
-/// Subnet and node of a till.
+/// Returns subnet and node of a till.
 pub fn till(till: TillNo) -> [u8; 2]
     ensures { result ≡ TILL_SUBNET ∷ till ∷ [] }
 {
     [TILL_SUBNET, till.get()]
 }
 
-/// Subnet and node of the dispenser of a fuelling point.
+/// Returns subnet and node of the dispenser of a fuelling point.
 pub fn dispenser(point: FpNo) -> [u8; 2]
     ensures { result ≡ DISPENSER_SUBNET ∷ point ∷ [] }
 {
     [DISPENSER_SUBNET, point.get()]
 }
 
-/// A Read, a Write or a Report.
+/// Checks that the message is a Read, a Write or a Report; otherwise `NotARequest`.
 pub fn check_request(kind: Kind) -> Result<(), MapFault>
     ensures { Gives result (is_request kind) }
 {
@@ -44,7 +44,7 @@ pub fn check_request(kind: Kind) -> Result<(), MapFault>
     }
 }
 
-/// The site is the recipient.
+/// Checks that the site is the recipient; otherwise `NotForUs`.
 #[tactic(auto, unfolding(crate::specs::Nodes::for_us))]
 pub fn check_recipient(to: [u8; 2]) -> Result<(), MapFault>
     ensures { Gives result (for_us to) }
@@ -56,7 +56,8 @@ pub fn check_recipient(to: [u8; 2]) -> Result<(), MapFault>
     }
 }
 
-/// The actor of a request of this kind: a till for a Read or a Write, a dispenser for a Report.
+/// Returns the actor of a request of this kind: a till for a Read or a Write, a dispenser for a
+/// Report. `BadOriginator` if the node is none of these, `NotARequest` for any other kind.
 pub fn actor_of(kind: Kind, from: [u8; 2]) -> Result<Actor, MapFault>
     ensures { Gives result (actor_at kind from) }
 {

@@ -25,17 +25,17 @@ use std::alloc::Global;
 /// No reply's items take more octets, so that a reply takes one growth.
 const ROOM: usize = 96;
 
-/// The message that tells the reply to this request: it goes from the site to the request's
-/// originator, with its token and its address. A read that is accepted is told by an Answer, all
-/// else by an Ack.
+/// Returns the message that answers this request with a reply. It goes from the site to the
+/// request's originator, with the request's token and address. An accepted read is answered by an
+/// Answer, everything else by an Ack.
 pub fn reply_of(alloc: Global, request: &Message, reply: &Reply) -> Result<Message, NoMemory>
     ensures { IfOk result (λ message. message ≡ reply_message request.now reply.now) }
 {
     reply_in(Vec::new(alloc), &request.as_spelled(), reply)
 }
 
-/// The same message, written into a buffer, whose content goes. The buffer is lost after
-/// `NoMemory`.
+/// Returns the same message, written into a buffer, whose content is replaced. The buffer is lost
+/// after `NoMemory`.
 #[inline(always)]
 pub fn reply_in(
     buffer: Vec<u8>,
@@ -49,16 +49,16 @@ pub fn reply_in(
     Ok(finish_message(draft))
 }
 
-/// The message that tells a number in place of a reply: why no row was made, or why the request
-/// means no event.
+/// Returns the message that answers with a number in place of a reply: why no row was made, or why
+/// the request means no event.
 pub fn refusal_of(alloc: Global, request: &Message, number: u8) -> Result<Message, NoMemory>
     ensures { IfOk result (λ message. message ≡ number_message request.now number) }
 {
     refusal_in(Vec::new(alloc), &request.as_spelled(), number)
 }
 
-/// The same message, written into a buffer, whose content goes. The buffer is lost after
-/// `NoMemory`.
+/// Returns the same message, written into a buffer, whose content is replaced. The buffer is lost
+/// after `NoMemory`.
 pub fn refusal_in(
     buffer: Vec<u8>,
     request: &SpelledMessage<'_>,
@@ -71,8 +71,8 @@ pub fn refusal_in(
     Ok(finish_message(draft))
 }
 
-/// The message that tells this reply to the recipient of another message, with that one's token and
-/// address.
+/// Returns the message that answers with this reply. It has the recipient, the token and the
+/// address of another message.
 pub fn reply_like(alloc: Global, message: &Message, reply: &Reply) -> Result<Message, NoMemory>
     ensures { IfOk result (λ m. m ≡ told_message message.now reply.now) }
 {
@@ -83,8 +83,8 @@ pub fn reply_like(alloc: Global, message: &Message, reply: &Reply) -> Result<Mes
     Ok(finish_message(again))
 }
 
-/// The message that tells this number to the recipient of another message, with that one's token
-/// and address.
+/// Returns the message that answers with this number. It has the recipient, the token and the
+/// address of another message.
 pub fn number_like(alloc: Global, message: &Message, number: u8) -> Result<Message, NoMemory>
     ensures { IfOk result (λ m. m ≡ told_number message.now number) }
 {
@@ -95,8 +95,8 @@ pub fn number_like(alloc: Global, message: &Message, number: u8) -> Result<Messa
     Ok(finish_message(again))
 }
 
-/// The message that tells why a stream ended: an Ack with the site's address, to the originator and
-/// with the token of the faulty header.
+/// Returns the message that says why a stream ended: an Ack with the site's address, to the
+/// originator and with the token of the faulty header.
 pub fn stream_refusal(alloc: Global, fault: &StreamFault) -> Result<Message, NoMemory>
     ensures { IfOk result (λ message. message ≡ fault_message fault.now) }
 {
@@ -118,7 +118,7 @@ fn begin_reply(buffer: Vec<u8>, request: &SpelledMessage<'_>, kind: Kind) -> Res
     Draft::back(request, node::site(), kind, buffer, ROOM)
 }
 
-/// A message without items yet.
+/// Begins a message without items.
 pub fn begin_message(
     alloc: Global,
     to: [u8; 2],
@@ -140,7 +140,7 @@ pub fn begin_message(
     }
 }
 
-/// The message of a draft whose items are short.
+/// Returns the message of a draft whose items are short.
 pub fn finish_message(draft: Draft) -> Message
     requires short { AreShort draft.items }
     requires least { 1 ≤ length draft.address }

@@ -13,9 +13,9 @@ use crate::{further_items, ids, node};
 use app_message::{Item, Items, Kind, Message, SpelledMessage};
 use site_base::{Actor, Event, FpNo, ProductNo};
 
-/// The actor and the event that the message means, or its first fault, in the order of `MapFault`'s
-/// variants: it is a request, for this site, from one who may ask it, of a database that has
-/// requests of this kind, with just the items that belong to it.
+/// Returns the actor and the event that the message means, or its first fault, in the order of
+/// `MapFault`'s variants. The message has to be a request, for this site, from a node that may ask
+/// it, to a database that has requests of this kind, with exactly the items of that request.
 #[inline(always)]
 pub fn request_of(message: &Message) -> Result<(Actor, Event), MapFault>
     ensures { Gives result (request_at message.now) }
@@ -23,7 +23,7 @@ pub fn request_of(message: &Message) -> Result<(Actor, Event), MapFault>
     request_in(&message.as_spelled())
 }
 
-/// The same, of a message where it lies.
+/// Returns the same for a message that is read in place.
 #[tactic(auto, unfolding(crate::specs::Requests::request_at))]
 #[inline(always)]
 pub fn request_in(message: &SpelledMessage<'_>) -> Result<(Actor, Event), MapFault>

@@ -1,4 +1,5 @@
-//! The way to each event: the kind of message, the database, the command, and what it carries.
+//! The way to each event: the kind of message, the database, the command, and what the command
+//! carries.
 
 ghost use Rattle.std.specs.Prelude.{◌≡◌, true};
 ghost use Rattle.site_base.specs.declared.limits.TheConstants.{POINTS, PRODUCTS};
@@ -13,7 +14,7 @@ use crate::ids;
 use app_message::Kind;
 use site_base::{Event, FpNo, Millilitres, NozzleNo, Preset, ProductNo, SaleId, Seq, ShiftNo};
 
-/// What a command carries, in it and behind it.
+/// What a command carries, in it and after it.
 #[derive(Clone, Copy)]
 pub enum Content {
     /// Nothing.
@@ -24,16 +25,16 @@ pub enum Content {
     Payment(u32),
     /// A nozzle, and the reading of its meter.
     Meter(NozzleNo, Millilitres),
-    /// A price in mills, which stands in the command itself.
+    /// A price in mills, which is in the command itself.
     Price(u32),
 }
 
-/// A kind of message to a database, with a command or without, and what this carries.
+/// A kind of message to a database, with a command or without, and what the command carries.
 #[derive(Clone, Copy)]
 pub struct Way {
     /// The kind of message.
     pub kind: Kind,
-    /// The database that it speaks of.
+    /// The database to which it goes.
     pub database: Database,
     /// The command; None in a read.
     pub command: Option<u8>,
@@ -42,7 +43,7 @@ pub struct Way {
 }
 
 impl Way {
-    /// The way to this event.
+    /// Returns the way to this event.
     pub fn to(event: Event) -> Way
         ensures way { result ≡ way_to event }
         ensures range { is_in_range event ≡ true }

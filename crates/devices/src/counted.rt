@@ -10,9 +10,9 @@ use std::io::{self, ErrorKind, Read, Write};
 /// A reader or a writer with the number of its failed calls, from 0 up to the greatest `u64`, where
 /// the count stays.
 ///
-/// A call that answers an error is a failed call, unless a signal interrupted it. So is a write
-/// that takes no octet, since the writer takes no more. A read of no octet is not: it is the end of
-/// the input. Between the calls the device is as it would be by itself.
+/// A call that returns an error is a failed call, unless a signal interrupted it. A write that
+/// takes no octet is one too, because the writer takes no more. A read of no octet is not: it is
+/// the end of the input. Between the calls the device is as it would be by itself.
 #[derive(Debug, Drop)]
 pub struct Counted<D> {
     device: D,
@@ -22,7 +22,7 @@ pub struct Counted<D> {
 impl<D> Counted<D> {
     ghost use Rattle.devices.specs.Counted.{device_of, failures_of};
 
-    /// The device, none of whose calls has failed yet.
+    /// Returns the device, none of whose calls has failed yet.
     pub fn new(device: D) -> Counted<D>
         ensures device { device_of result ≡ device }
         ensures failures { failures_of result ≡ 0 }
@@ -33,21 +33,21 @@ impl<D> Counted<D> {
         }
     }
 
-    /// The number of calls that failed. It rises by one in each failed call and in no other.
+    /// Returns the number of failed calls. It rises by one in each failed call and in no other.
     pub fn failures(&self) -> u64
         ensures { result ≡ failures_of self.now }
     {
         self.failures
     }
 
-    /// The device, to look at.
+    /// Returns the device, to look at.
     pub fn get_ref(&self) -> &D
         ensures { result.now ≡ device_of self.now }
     {
         &self.device
     }
 
-    /// The device by itself, without its count.
+    /// Returns the device without its count.
     pub fn into_inner(self) -> D
         ensures { result ≡ device_of self }
     {

@@ -1,7 +1,6 @@
-//! Readers and writers whose failed calls are counted, and the two ways in which they are called:
-//! one bounded read of a piece, and one whole write of a text. What is read and written is known
-//! where the type of the device shows its octets (memory), and not known otherwise (files,
-//! sockets).
+//! Readers and writers whose failed calls are counted, and the two ways in which they are called: a
+//! bounded read of one piece, and a write of a whole text. What is read and written is known if the
+//! type of the device shows its octets (memory), and unknown otherwise (files, sockets).
 #![tactic(auto)]
 
 mod counted;

@@ -1,4 +1,4 @@
-//! One bounded read of a piece, and one whole write of a text.
+//! Reads one piece, and writes a whole text.
 ghost use Rattle.std.specs.Prelude.{◌≡◌, ◌<◌, ◌≤◌, length, take, IfOk, OnOk, OnErr};
 ghost use Rattle.std.specs.Result.{IsErrOf};
 ghost use Rattle.std.specs.Io.KnownBytes.{Appends, Consumes, IsAtEnd, Keeps};
@@ -10,7 +10,7 @@ use std::error::Error;
 use std::fmt;
 use std::io::{ErrorKind, Read, Write};
 
-/// The octets of one read, at most.
+/// The most octets of one read.
 pub const PIECE_OCTETS: usize = 4_096;
 
 /// Why a read gave no piece.
@@ -25,7 +25,7 @@ pub enum ReadFault {
 impl ReadFault {
     ghost use Rattle.devices.specs.Transfer.{read_fault_number};
 
-    /// The fault's number: 59 for the turn limit, 61 for a failed reader.
+    /// Returns the fault's number: 59 for the turn limit, 61 for a failed reader.
     pub fn number(self) -> u8
         ensures { result ≡ read_fault_number self }
     {
@@ -47,7 +47,7 @@ impl fmt::Display for ReadFault {
 
 impl Error for ReadFault {}
 
-/// Why a text wasn't written whole.
+/// Why a text wasn't written completely.
 #[derive(Clone, Copy, Debug, PartialEq, Eq)]
 pub enum WriteFault {
     /// No turn was left for an interrupted call.
@@ -59,7 +59,7 @@ pub enum WriteFault {
 impl WriteFault {
     ghost use Rattle.devices.specs.Transfer.{write_fault_number};
 
-    /// The fault's number: 59 for the turn limit, 62 for a failed writer.
+    /// Returns the fault's number: 59 for the turn limit, 62 for a failed writer.
     pub fn number(self) -> u8
         ensures { result ≡ write_fault_number self }
     {
@@ -81,12 +81,12 @@ impl fmt::Display for WriteFault {
 
 impl Error for WriteFault {}
 
-/// Reads one piece into the front of `buf`, and answers its length. 0 is the end of the input.
+/// Reads one piece into the front of `buf`, and returns its length. 0 means the end of the input.
 ///
-/// Each call of the reader takes one of `turns`, and an interrupted call is made again. It ends
-/// with `TurnLimit` where no turn is left before a call, and with `Failed` where a call failed in
-/// another way; no call is made after that. After either the input is as it was, and what `buf`
-/// holds is of no use. The reader's count rises by one at `Failed` and stays at every other end.
+/// Each call of the reader takes one of `turns`, and an interrupted call is made again. `TurnLimit`
+/// if no turn is left before a call, and `Failed` if a call failed in another way; no call is made
+/// after that. After either fault the input is as it was, and what `buf` holds means nothing. The
+/// reader's count rises by one at `Failed`, and stays otherwise.
 pub fn read_piece<R: Read>(
     reader: &mut Counted<R>,
     buf: &mut [u8],
@@ -130,11 +130,10 @@ pub fn read_piece<R: Read>(
 
 /// Writes the whole text, in as many calls as the writer needs. An empty text needs none.
 ///
-/// An interrupted call takes one of `turns` and is made again; no other call takes one. It ends
-/// with `TurnLimit` where a call was interrupted and no turn is left for it, and with `Failed`
-/// where a call failed in another way or took no octet; no call is made after that. After either a
-/// front of the text is written, which may be empty. The writer's count rises by one at `Failed`
-/// and stays at every other end.
+/// An interrupted call takes one of `turns` and is made again; no other call takes one. `TurnLimit`
+/// if a call was interrupted and no turn is left for it, and `Failed` if a call failed in another
+/// way or took no octet; no call is made after that. After either fault a prefix of the text is
+/// written, which may be empty. The writer's count rises by one at `Failed`, and stays otherwise.
 #[tactic(auto, using(crate::proofs::KnownBytes::known))]
 pub fn write_whole<W: Write>(
     writer: &mut Counted<W>,

@@ -1,4 +1,4 @@
-//! What `--version` says behind the version: which program this is, and of what it was made.
+//! What `--version` prints after the version: which program this is, and from what it was made.
 
 ghost use Rattle.std.specs.Prelude.{◌≡◌, ◌++◌, IfOk, codes, string_bytes};
 ghost use Rattle.hex.specs.Hex.{encode_lower};
@@ -16,9 +16,9 @@ const PROGRAM: &str = "/proc/self/exe";
 /// What a package says of its program: the line of its SHA-256, then of what it was made.
 const RECORD: &str = "/usr/share/forecourt/build";
 
-/// The line of this program's SHA-256. Where a package brought just this program, those of the
-/// commit and of the kit of which it was made follow. Without a line, the system doesn't show the
-/// program.
+/// Returns the line of this program's SHA-256. If a package brought exactly this program, the lines
+/// of the commit and of the kit from which it was made follow. The text is empty if the system
+/// doesn't show the program.
 pub fn build_lines<R: Files + AllocGlobal>(rt: &R) -> Result<String, AllocError> {
     let program = match fs::read(rt, PROGRAM) {
         Ok(program) => program,

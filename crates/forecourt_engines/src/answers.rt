@@ -1,4 +1,4 @@
-//! Messages answered over a book.
+//! Answers messages over a book.
 
 ghost use Rattle.std.specs.Prelude.{◌≡◌, ◌++◌, OnOk};
 ghost use Rattle.hex_lines.specs.Lines.{line_of};
@@ -17,8 +17,8 @@ use site_book::SiteBook;
 use std::alloc::Global;
 use std::marker::Model;
 
-/// What answers messages: a book, and whether the changes of its rows are told too. Beside that it
-/// has what writes the answers.
+/// What answers messages: a book, and whether it also writes the changes of its rows. Besides these
+/// it has what writes the answers.
 #[derive(Drop)]
 pub struct Answerer {
     alloc: Global,
@@ -36,7 +36,8 @@ impl Model for Answerer {
 }
 
 impl Answerer {
-    /// An answerer over this book, which tells changes or not. It takes no memory.
+    /// Returns an answerer over this book; with `changes` it writes changes too. It takes no
+    /// memory.
     pub fn new(alloc: Global, book: SiteBook, changes: bool) -> Answerer
         ensures { result ≡ record { book = book; changes = changes } }
     {
@@ -48,7 +49,7 @@ impl Answerer {
         }
     }
 
-    /// The book.
+    /// Returns the book.
     pub fn into_book(self) -> SiteBook
         ensures { result ≡ self.book }
     {
@@ -67,8 +68,7 @@ impl Answerer {
         Ok(())
     }
 
-    /// Appends the lines for a message: its answer, and, where changes are told, the change of its
-    /// row.
+    /// Appends the lines for a message: its answer, and, with `changes`, the change of its row.
     #[inline(always)]
     pub fn answer(
         &mut self,

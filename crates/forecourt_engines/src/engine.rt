@@ -18,9 +18,9 @@ use std::alloc::Global;
 use std::marker::Model;
 use std::mem;
 
-/// A replay between two octets of its input. Beside what its text depends on it has buffers that
-/// stay, for a line without its spaces and for its octets, so that a line no longer than the line
-/// before it is meant to allocate nothing of its own. Line numbers stop at the greatest `u64`.
+/// A replay between two octets of its input. Besides what its text depends on it has buffers that
+/// stay: for a line without its spaces, and for the line's octets. So a line that isn't longer than
+/// the one before it should allocate nothing of its own. Line numbers stop at the greatest `u64`.
 #[derive(Drop)]
 pub struct Engine {
     alloc: Global,
@@ -51,8 +51,8 @@ impl Model for Engine {
 }
 
 impl Engine {
-    /// The engine before the first octet, over this book; it tells the changes of its rows or not.
-    /// It takes no memory.
+    /// Returns the engine before the first octet, over this book; with `changes` it writes the
+    /// changes of its rows too. It takes no memory.
     pub fn new(alloc: Global, book: SiteBook, changes: bool) -> Engine
         ensures { result ≡ start (record { book = book; changes = changes }) }
     {
@@ -67,21 +67,22 @@ impl Engine {
         }
     }
 
-    /// Why the text has ended, if it has.
+    /// Returns why the text has ended, if it has.
     pub fn stop(&self) -> Option<TextFault>
         ensures { result ≡ self.now.stop }
     {
         self.stop
     }
 
-    /// The book.
+    /// Returns the book.
     pub fn into_book(self) -> SiteBook
         ensures { result ≡ self.answerer.book }
     {
         self.stream.into_book()
     }
 
-    /// Takes a piece of the input, and appends its text. After `NoMemory` the engine is of no use.
+    /// Takes a piece of the input, and appends its text. After `NoMemory` the engine can't be used
+    /// any more.
     pub fn feed(&mut self, piece: &[u8], out: &mut Vec<u8>) -> Result<(), NoMemory>
         ensures state { OnOk result (self.new ≡ after self.old piece.now) }
         ensures text { OnOk result (out.new.items ≡ out.old.items ++ text_from self.old piece.now) }
@@ -95,7 +96,7 @@ impl Engine {
         self.begin_line(rest)
     }
 
-    /// The end of the input: it ends the last line. Appends its text, and answers why the text
+    /// Ends the input, and so its last line. Appends the text of that, and returns why the text
     /// ends.
     pub fn finish(&mut self, out: &mut Vec<u8>) -> Result<Option<TextFault>, NoMemory>
         ensures fault { IfOk result (λ fault. fault ≡ last_fault self.old) }

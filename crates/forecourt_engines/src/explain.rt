@@ -14,13 +14,13 @@ use std::fmt;
 pub enum Meaning {
     /// An actor asks the site for an event.
     Asked(Actor, Event),
-    /// The site tells a reply.
+    /// The site answers with a reply.
     Told(Reply),
-    /// The site tells a number in place of a reply.
+    /// The site answers with a number in place of a reply.
     Numbered(u8),
-    /// The site tells a dispenser of a change.
+    /// The site sends a dispenser the notice of a change.
     Changed(Event),
-    /// It asks for nothing, and isn't what the site tells: why it is no request.
+    /// It asks for nothing, and the site doesn't send such a message: why it is no request.
     NotAsked(MapFault),
 }
 
@@ -38,8 +38,8 @@ pub struct Explanation {
     pub meaning: Meaning,
 }
 
-/// What a message means: the event that it asks for, or what the site tells by it. No meaning is
-/// told that the profile spells otherwise.
+/// Returns what a message means: the event that it asks for, or what the site says with it. It
+/// returns a meaning only if docs/PROTOCOL.md has exactly this message for it.
 pub fn explain(alloc: Global, message: &Message) -> Result<Explanation, NoMemory>
     ensures to { IfOk result (λ told. told.to ≡ message.now.to) }
     ensures from { IfOk result (λ told. told.from ≡ message.now.from) }

@@ -8,10 +8,10 @@ use devices::{ReadFault, WriteFault};
 use site_base::NoMemory;
 use thiserror::Error;
 
-/// What the text of a replay ends with. Lines are counted from 1.
+/// The fault with which the text of a replay ends. Lines are counted from 1.
 #[derive(Clone, Copy, Debug, PartialEq, Eq, Error)]
 pub enum TextFault {
-    /// The octets of the lines have a fault; the refusal of it is the last line.
+    /// The octets of the lines have a fault. Its refusal is the last line of the text.
     #[error("fault {}", .0.number())]
     Stream(GrammarFault),
     /// A line isn't an even number of hexadecimal digits.
@@ -37,13 +37,14 @@ pub enum ReplayFault {
     /// The output took no more.
     #[error("fault {}", .0.number())]
     Write(WriteFault),
-    /// The text ends so.
+    /// The text ended with this fault.
     #[error(transparent)]
     Text(TextFault),
 }
 
 impl ReplayFault {
-    /// The exit status of a program that ends with this fault: 4 for want of memory, else 1.
+    /// Returns the exit status of a program that ends with this fault: 4 if memory ran out,
+    /// otherwise 1.
     pub fn exit_status(self) -> u8
         ensures { result ≡ exit_status self }
     {

@@ -1,11 +1,12 @@
 //! The engines of the forecourt program: what it does with octets, rows and texts, apart from its
 //! command line.
 //!
-//! `replay` answers lines of messages over the opening site of a configuration. What it writes is
-//! the text of what it read, as `specs/Text.antt` defines it octet by octet; the laws join that
-//! text to lines and to one stream of messages. `replay_to_report` writes the report of the rows
-//! that `replay` would make, which `day_report` makes of their figures. `Trace` reads such lines,
-//! and `explain` words each message; `words` reads such words back, and spells them.
+//! `replay` answers lines of messages over the opening site of a configuration. `specs/Text.antt`
+//! defines octet by octet the text that it writes for what it read. The laws join that text to
+//! lines and to one stream of messages. `replay_to_report` writes the report of the rows that
+//! `replay` would make, which `day_report` makes from their figures. `Trace` reads such lines, and
+//! `explain` puts each message into words. `words` reads such words back, and writes them as
+//! messages.
 #![tactic(auto)]
 
 mod answers;

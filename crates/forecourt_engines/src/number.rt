@@ -1,4 +1,4 @@
-//! Numbers in a text, and where a text parts.
+//! Numbers in a text, and where a text is split.
 
 ghost use Rattle.std.specs.Prelude.{◌≡◌, ◌≢◌, ◌≤◌, ◌++◌, ◌∷◌, ℕ, List, decimal, IfSome, IfNone};
 ghost use Rattle.std.specs.Prelude.{IsTrue, ◌↔◌};
@@ -14,7 +14,7 @@ pub fn is_word(text: &[u8], word: &[u8]) -> bool
     text == word
 }
 
-/// The rest of a text that begins with this word.
+/// Returns the rest of a text that begins with this word.
 pub fn strip_word<'a>(word: &[u8], text: &'a [u8]) -> Option<&'a [u8]>
     ensures found { IfSome result (λ rest. text.now ≡ word.now ++ rest.now) }
     ensures other { IfNone result ((rest : List ℕ) → text.now ≢ word.now ++ rest) }
@@ -30,7 +30,7 @@ pub fn strip_word<'a>(word: &[u8], text: &'a [u8]) -> Option<&'a [u8]>
     }
 }
 
-/// The number that these octets write, from 0 to this one, without needless zeros in front.
+/// Returns the number that these digits write, from 0 to `most`, without needless leading zeros.
 pub fn number_of(digits: &[u8], most: u64) -> Option<u64>
     ensures written { IfSome result (λ n. (digits.now ≡ decimal n) × (n ≤ most)) }
     ensures other { IfNone result ((n : ℕ) → n ≤ most → digits.now ≢ decimal n) }
@@ -58,7 +58,7 @@ fn is_signed_or_padded(digits: &[u8]) -> bool
     }
 }
 
-/// The number behind this word, from the least to the greatest.
+/// Returns the number after this word, from `least` to `most`.
 pub fn number_behind(word: &[u8], text: &[u8], least: u64, most: u64) -> Option<u64>
     ensures written { IfSome result (λ n.
         (text.now ≡ word.now ++ decimal n) × (least ≤ n) × (n ≤ most)) }
@@ -74,8 +74,8 @@ pub fn number_behind(word: &[u8], text: &[u8], least: u64, most: u64) -> Option<
     if least <= n { Some(n) } else { None }
 }
 
-/// What stands before this octet, where it comes first, and what stands behind it; None where it
-/// isn't there.
+/// Splits a text at the first of these octets, and returns the parts before and after it; None if
+/// there is no such octet.
 pub fn split_at_octet(octet: u8, text: &[u8]) -> Option<(&[u8], &[u8])>
     ensures found { IfSome result (λ parts. (text.now ≡ parts.0.now ++ (octet ∷ parts.1.now))
         × IsWithout octet parts.0.now) }

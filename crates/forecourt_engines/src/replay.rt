@@ -22,19 +22,19 @@ use std::io::{Read, Write};
 /// How a replay ended.
 #[derive(Drop)]
 pub struct ReplayEnd {
-    /// Why it ended; None where the input was read to its end without a fault.
+    /// Why it ended; None if the input was read to its end without a fault.
     pub fault: Option<ReplayFault>,
-    /// The book; None only where there was no memory to open it.
+    /// The book; None only if there was no memory to open it.
     pub book: Option<SiteBook>,
 }
 
-/// Replays lines of messages on the opening site of this configuration: each message is answered by
-/// a line, in order, and, with `changes`, the change that its row stands for follows as a line. It
-/// ends at the end of the input, at the first fault of the text, where an allocation fails, a
-/// device fails, or `turns` are used up (each read call and each interrupted write call is a turn),
-/// so that no more than a piece a turn is read. Whatever it ends with, what was written is a front
-/// of the text of what was read. It ends with a fault of the text only where the text stops at what
-/// was read, or the input is at its end.
+/// Replays lines of messages on the opening site of this configuration. Each message is answered by
+/// a line, in order; with `changes`, the line of its row's change follows. The replay ends at the
+/// end of the input, at the first fault of the text, if an allocation or a device fails, or if
+/// `turns` are used up. Each read call and each interrupted write call is a turn, so a turn reads
+/// at most one piece. However it ends, what was written is a prefix of the text of what was read.
+/// It ends with a fault of the text only if the text stops at what was read, or the input is at its
+/// end.
 pub fn replay<R: Read, W: Write>(
     alloc: Global,
     config: &SiteConfig,

@@ -1,5 +1,5 @@
-//! The replay that ends with a report: lines of messages in, the report of their rows out. The
-//! report's write takes its turns from those that the replay left.
+//! The replay that ends with a report: it reads lines of messages, and writes the report of their
+//! rows. The turns of the report's write are those that the replay left.
 
 ghost use Rattle.std.specs.Prelude.{◌≡◌, ◌⊎◌, Some, None, string_bytes, IfOk, OnOk};
 ghost use Rattle.std.specs.Result.{IsErrOf, result_err};
@@ -22,10 +22,10 @@ use std::alloc::Global;
 use std::io::{Read, Write};
 
 /// Replays lines of messages on the opening site of this configuration, as `replay` does, but
-/// writes no answer. Where the text of the answers ends, at the end of the input or with a fault of
-/// its own, the report of the rows until then is written: their figures by the book's audit, and
-/// that no share settled. Where the replay ends early, for want of memory, at its turn limit or
-/// with a reader that fails, nothing is.
+/// writes no answer. At the end of the input, or at a fault of its text, it writes the report of
+/// the rows until then: their figures by the book's audit, and that no share settled. If the replay
+/// ends early, because memory runs out, at its turn limit or with a reader that fails, it writes
+/// nothing.
 pub fn replay_to_report<R: Read, W: Write>(
     alloc: Global,
     config: &SiteConfig,

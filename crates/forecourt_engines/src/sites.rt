@@ -1,4 +1,4 @@
-//! The site that the program knows by itself.
+//! The site that the program itself contains.
 
 ghost use Rattle.std.specs.Prelude.{◌≡◌, ◌≤◌, true, IfOk};
 ghost use Rattle.site_base.specs.declared.config.TheConstants.{GREATEST_ROWS};
@@ -13,16 +13,16 @@ use site_base::{
 };
 use std::alloc::Global;
 
-/// The known site, with as many rows as a site file may allow.
+/// Returns the known site, with as many rows as a site file may allow.
 pub fn known_site(alloc: Global) -> Result<SiteConfig, NoMemory>
     ensures { IfOk result (λ config. config ≡ known_site) }
 {
     known_site_of(alloc, GREATEST_ROWS)
 }
 
-/// Two products (diesel at 1500 mills, petrol at 1799), five fuelling points that each have a
-/// nozzle of diesel from reading 0 and a nozzle of petrol from reading 1000, and till 1 as a
-/// manager. Its book has at most so many rows.
+/// Returns a site of two products (diesel at 1500 mills, petrol at 1799), five fuelling points that
+/// each have a nozzle of diesel from reading 0 and a nozzle of petrol from reading 1000, and till 1
+/// as a manager. Its book has at most this many rows.
 pub fn known_site_of(alloc: Global, rows: u32) -> Result<SiteConfig, NoMemory>
     requires { (1 ≤ rows) × (rows ≤ GREATEST_ROWS) }
     ensures { IfOk result (λ config. config ≡ known_site_of rows) }

@@ -7,7 +7,7 @@ ghost use Rattle.forecourt_engines.specs.SiteSizes.{nozzle_count, sizes_of};
 use site_base::{PointEntry, SiteConfig};
 use std::fmt;
 
-/// How many fuelling points, nozzles and products a site has.
+/// The number of fuelling points, nozzles and products of a site.
 #[derive(Clone, Copy, Debug, PartialEq, Eq)]
 pub struct Sizes {
     /// The fuelling points.
@@ -19,7 +19,7 @@ pub struct Sizes {
 }
 
 impl Sizes {
-    /// The sizes of the site of this configuration.
+    /// Returns the sizes of the site of this configuration.
     pub fn of(config: &SiteConfig) -> Sizes
         ensures { result ≡ sizes_of config.now }
     {

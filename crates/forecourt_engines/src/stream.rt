@@ -1,4 +1,4 @@
-//! The stream of messages that the octets of a replay's lines are.
+//! The stream of messages in the octets of a replay's lines.
 
 ghost use Rattle.std.specs.Prelude.{◌≡◌, ◌++◌, [], length, nat_lt, IfOk, OnOk};
 ghost use Rattle.app_message.specs.Stream.{fed_by, held_after};
@@ -35,7 +35,7 @@ impl Model for AnsweredStream {
 }
 
 impl AnsweredStream {
-    /// A stream before its first octet. It takes no memory.
+    /// Returns a stream before its first octet. It takes no memory.
     pub fn new(alloc: Global, book: SiteBook, changes: bool) -> AnsweredStream
         ensures { result
             ≡ stream_state (held_after []) (record { book = book; changes = changes }) }
@@ -48,22 +48,22 @@ impl AnsweredStream {
         }
     }
 
-    /// The book.
+    /// Returns the book.
     pub fn into_book(self) -> SiteBook
         ensures { result ≡ self.answerer.book }
     {
         self.answerer.into_book()
     }
 
-    /// Whether a message is begun and not ended.
+    /// Has a message begun that hasn't ended?
     pub fn is_inside(&self) -> bool
         ensures { result ≡ nat_lt 0 (length self.now.stream.rest) }
     {
         self.decoder.held() > 0
     }
 
-    /// Takes octets. The messages that they end are each answered over the book by a line, and the
-    /// refusal of a stream's fault follows. The answer is why the text ends with them, if it does.
+    /// Takes octets. Answers each message that they end over the book, by a line. The refusal of a
+    /// fault of the stream follows. Returns why the text ends with these octets, if it does.
     #[inline(always)]
     pub fn answer(
         &mut self,

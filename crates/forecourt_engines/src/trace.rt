@@ -1,4 +1,4 @@
-//! A trace: lines of messages, to be explained.
+//! A trace: lines of messages to be explained.
 
 ghost use Rattle.std.specs.Prelude.{◌≡◌, ◌≤◌, ◌<◌, [], length, Some, None, IfOk, OnOk};
 ghost use Rattle.app_message.specs.Stream.{fed_by, held_part, held_after};
@@ -42,7 +42,7 @@ pub struct Explained {
 }
 
 impl Trace {
-    /// A trace before its first line. It takes no memory.
+    /// Returns a trace before its first line. It takes no memory.
     pub fn new(alloc: Global) -> Trace
         ensures { result ≡ record { number = 1; stream = held_after [] } }
     {
@@ -53,9 +53,9 @@ impl Trace {
         }
     }
 
-    /// Takes a line, which comes without its line feed, and gives the messages that end in it. It
-    /// ends the trace where it ends a replay, with the same fault, whatever book the replay is
-    /// over. After `NoMemory` the trace is of no use.
+    /// Takes a line without its line feed, and returns the messages that end in it. The line ends
+    /// the trace if it ends a replay, with the same fault, whatever the replay's book is. After
+    /// `NoMemory` the trace can't be used any more.
     pub fn line(&mut self, line: &[u8]) -> Result<Explained, NoMemory>
         ensures number { OnOk result (self.new.number ≡ next_number self.old.number) }
         ensures messages { IfOk result (λ told. length line.now ≤ LINE_OCTETS
@@ -104,7 +104,7 @@ impl Trace {
         }
     }
 
-    /// The end of the trace: octets of a message that doesn't come are a fault.
+    /// Ends the trace. Octets of a message that isn't complete are a fault.
     pub fn end(&self) -> Option<TextFault>
         ensures { result ≡ left_over self.now.stream.rest }
     {

@@ -1,5 +1,5 @@
-//! The tests of site_base, site_file, demo, forecourt_engines and day_base: what no
-//! clause says of them, and what the program can't be brought to from outside. They stand apart so
+//! The tests of site_base, site_file, demo, forecourt_engines and day_base: what no clause says of
+//! them, and states that the program can't reach from outside. They are a crate of their own, so
 //! that those crates are proved once.
 #![tactic(auto)]
 

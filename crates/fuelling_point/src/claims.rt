@@ -38,7 +38,7 @@ impl Model for Claims {
 }
 
 impl Claims {
-    /// No point is held.
+    /// Returns no holds.
     pub fn new() -> Self
         ensures { result ≡ map.empty }
     {
@@ -48,7 +48,7 @@ impl Claims {
         }
     }
 
-    /// The till that holds the point; None where nobody does.
+    /// Returns the till that holds the point; None if nobody does.
     pub fn holder(&self, p: FpNo) -> Option<TillNo>
         ensures { result ≡ map.get self.now p }
     {
@@ -56,8 +56,8 @@ impl Claims {
         holder
     }
 
-    /// The till takes the hold of a point that no other till holds. Where it holds the point
-    /// already, nothing changes. Every other hold stays.
+    /// Gives the till the hold of a point that no other till holds. If it holds the point already,
+    /// nothing changes. Every other hold stays.
     pub fn take(&mut self, p: FpNo, t: TillNo)
         requires { is_free_for t (map.get self.old p) ≡ true }
         ensures { self.new ≡ map.insert self.old p t }
@@ -69,7 +69,7 @@ impl Claims {
         self.held[place] = held;
     }
 
-    /// Nobody holds the point any more. Every other hold stays.
+    /// Ends the hold of the point. Every other hold stays.
     pub fn free(&mut self, p: FpNo)
         ensures { self.new ≡ map.remove self.old p }
     {
@@ -84,7 +84,8 @@ impl Claims {
         self.held[place] = held;
     }
 
-    /// The points that the till holds, in rising order. The only error is want of memory.
+    /// Returns the points that the till holds, in rising order. The only error is that memory runs
+    /// out.
     pub fn held_by(&self, alloc: Global, t: TillNo) -> Result<Vec<FpNo>, NoMemory>
         ensures { IfOk result (λ points. points.items ≡ points_held t self.now) }
     {

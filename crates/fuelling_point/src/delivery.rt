@@ -1,4 +1,4 @@
-//! What a fuelling under way keeps.
+//! What a fuelling in progress keeps.
 
 ghost use Rattle.std.specs.Prelude.{◌≡◌, ◌+◌, ◌≤◌};
 ghost use Rattle.site_base.specs.declared.amounts.TheConstants.{GREATEST_READING};
@@ -12,12 +12,12 @@ pub struct Delivery {
     pub price: Mills,
     /// The nozzle's reading at the start.
     pub start: Millilitres,
-    /// The millilitres since.
+    /// The millilitres that have flowed since the start.
     pub volume: u64,
 }
 
 impl Delivery {
-    /// A delivery that starts at this reading and price.
+    /// Returns a delivery that starts at this reading and price.
     pub fn new(start: Millilitres, price: Mills) -> Self
         ensures { result ≡ record { price = price; start = start; volume = 0 } }
     {
@@ -28,7 +28,7 @@ impl Delivery {
         }
     }
 
-    /// The delivery once so much more has flowed.
+    /// Returns the delivery after this much more has flowed.
     pub fn after(self, growth: u64) -> Self
         requires fits { self.volume + growth ≤ GREATEST_READING }
         ensures { result ≡ record self { volume = self.volume + growth } }

@@ -2,8 +2,7 @@
 
 use site_base::{Millilitres, Mills, NozzleNo, Preset};
 
-/// One event at a fuelling point. Whose event it is, and whether the meter agrees, was looked at
-/// before.
+/// One event at a fuelling point. The caller has checked who sent it, and that the meter agrees.
 #[derive(Clone, Copy, Debug, PartialEq, Eq)]
 pub enum PointEvent {
     /// The dispenser is reached.
@@ -18,16 +17,16 @@ pub enum PointEvent {
     Assign,
     /// A till gives the point back.
     Unassign,
-    /// A nozzle is taken out. Where this starts the fuelling, it takes the price and the nozzle's
-    /// last reading.
+    /// A nozzle is taken out. If this starts the fuelling, it takes the price and the nozzle's last
+    /// reading.
     Lift {
         nozzle: NozzleNo,
         last: Millilitres,
         price: Mills,
     },
-    /// A till releases the point within this preset, which may be prepaid (in cents). Where this
-    /// starts the fuelling, it takes the price and the last reading of the nozzle that is out;
-    /// they are used in calling alone.
+    /// A till releases the point within this preset, which may be prepaid (in cents). If this
+    /// starts the fuelling, it takes the price and the last reading of the nozzle that is out; they
+    /// are used only in calling.
     Release {
         preset: Preset,
         prepaid: Option<u32>,
@@ -35,8 +34,8 @@ pub enum PointEvent {
         price: Mills,
     },
     /// A till releases the point for a test: a fuelling without preset and prepayment whose fuel
-    /// goes back to the tank. Where this starts the test, it takes the price and the last reading
-    /// of the nozzle that is out; they are used in calling alone.
+    /// goes back to the tank. If this starts the test, it takes the price and the last reading of
+    /// the nozzle that is out; they are used only in calling.
     TestRelease {
         last: Millilitres,
         price: Mills,
@@ -45,16 +44,17 @@ pub enum PointEvent {
     ReplaceMeter,
     /// A till suspends the fuelling.
     Suspend,
-    /// A till lets the suspended fuelling go on.
+    /// A till continues the suspended fuelling.
     Resume,
     /// A till ends the release or the fuelling.
     Terminate,
-    /// So much fuel (in millilitres) has flowed by this nozzle since the last report.
+    /// This much fuel (in millilitres) has flowed through this nozzle since the last report.
     Flow {
         nozzle: NozzleNo,
         growth: u64,
     },
-    /// The nozzle is put back, and so much fuel (in millilitres) has flowed since the last report.
+    /// The nozzle is put back, and this much fuel (in millilitres) has flowed since the last
+    /// report.
     HangUp {
         nozzle: NozzleNo,
         growth: u64,

@@ -1,7 +1,7 @@
 //! One fuelling point: the machine of its nine states. It takes what tills and its dispenser do in
 //! turn, refuses what the point table doesn't list, and keeps what a fuelling needs until it ends.
-//! It takes no memory. Beside it stand the holds of a site: which till holds which point, at most
-//! one till a point, taken and given back without memory.
+//! It takes no memory. Besides it the crate has the holds of a site: which till holds which point,
+//! with at most one till for a point. Taking and giving back a hold takes no memory.
 #![tactic(auto)]
 
 mod claims;

@@ -21,14 +21,13 @@ use site_base::{Millilitres, Mills, NozzleNo, PointState, PointView, Preset, Ref
 use std::marker::Model;
 
 /// One fuelling point: its state, and what it keeps from one event to the next. A lifted nozzle is
-/// kept until it is put back, a preset and a prepayment, or the mark of a test, from the release
-/// on, the price and the start reading from the start of the fuelling on, its volume as it is
-/// reported. All of it is forgotten on the way to inoperative and to idle.
+/// kept until it is put back. A preset and a prepayment, or the mark of a test, are kept from the
+/// release on; the price and the start reading from the start of the fuelling on; and its volume as
+/// it is reported. All of it is forgotten when the point becomes inoperative or idle.
 ///
-/// So a nozzle is kept just where one is out, there is a volume just where fuel has flowed, only a
-/// suspended fuelling is ending, a test has neither preset nor prepayment, and nothing is kept of a
-/// release or a fuelling where there is none. That is true of every point; `view` and `judge` say
-/// so.
+/// So a nozzle is kept exactly while one is out, there is a volume exactly if fuel has flowed, only
+/// a suspended fuelling is ending, a test has neither preset nor prepayment, and without a release
+/// or a fuelling nothing is kept of one. That is true of every point; `view` and `judge` say so.
 #[derive(Drop)]
 pub struct Point {
     state: PointState,
@@ -52,7 +51,7 @@ impl Model for Point {
 }
 
 impl Point {
-    /// A closed point that keeps nothing.
+    /// Returns a closed point that keeps nothing.
     pub fn new() -> Self
         ensures closed { result ≡ empty_point Closed }
         ensures whole { IsWhole result }
@@ -68,9 +67,9 @@ impl Point {
         }
     }
 
-    /// The point as a read shows it; its holder isn't known here. Price and volume are 0 unless a
-    /// fuelling is under way: started, fuelling, or either of them suspended. The volume is one
-    /// that a meter can show.
+    /// Returns the point as a read shows it. Its holder isn't known here. Price and volume are 0
+    /// unless a fuelling is in progress: started, fuelling, or either of them suspended. The volume
+    /// is one that a meter can show.
     pub fn view(&self) -> PointView
         ensures view { result ≡ point_view self.now None }
         ensures whole { IsWhole self.now }
@@ -93,8 +92,8 @@ impl Point {
         }
     }
 
-    /// The reading at which the fuelling under way started, of the nozzle that is out. None where
-    /// no fuelling is under way.
+    /// Returns the reading of the nozzle that is out at the start of the fuelling in progress; None
+    /// if there is no such fuelling.
     pub fn start(&self) -> Option<Millilitres>
         ensures { result ≡ start_of self.now }
     {
@@ -104,12 +103,12 @@ impl Point {
         }
     }
 
-    /// Why `on` would refuse the event, if it would; the first of these that holds. Nothing
-    /// changes.
+    /// Returns why `on` would refuse the event, if it would: the first of these that is true.
+    /// Nothing changes.
     ///
     /// - `WrongState`: the point table doesn't list the event in the point's state.
     /// - `Ending`: the fuelling was terminated, so it is neither resumed nor terminated again.
-    /// - `WrongNozzle`: another nozzle than the one that flows or is put back is out.
+    /// - `WrongNozzle`: another nozzle is out than the one that flows or is put back.
     pub fn judge(&self, event: &PointEvent) -> Result<(), Refusal>
         ensures accepted { OnOk result (refusal_of event.now self.now ≡ None) }
         ensures refused { IfErr result (λ refusal. refusal_of event.now self.now ≡ Some refusal) }
@@ -127,10 +126,10 @@ impl Point {
         }
     }
 
-    /// Does what the point table says of the event, and answers what it did. The refusal is that of
-    /// `judge`, and leaves the point as it was; what an accepted event does is what `perform` says.
+    /// Does what the point table says of the event, and returns what it did. The refusal is that of
+    /// `judge`, and leaves the point as it was. `perform` says what an accepted event does.
     ///
-    /// The fuelling's volume with the growth handed in has to be one that a meter can show.
+    /// The fuelling's volume with the event's growth has to be one that a meter can show.
     pub fn on(&mut self, event: PointEvent) -> Result<PointStep, Refusal>
         requires { FitsGrowth event self.old }
         ensures accepted { OnOk result (refusal_of event self.old ≡ None) }
@@ -143,11 +142,11 @@ impl Point {
         Ok(self.perform(event))
     }
 
-    /// Does what the point table says of an event that `judge` accepts, and answers what it did; a
-    /// sale or a start with the values that stood before the point forgot them. A fuelling that
-    /// starts takes the price and the reading handed in, and nothing touches these until it is
-    /// over. A terminated fuelling takes flow until hang up or offline. Where a fuelling is sold, a
-    /// test is drawn.
+    /// Does what the point table says of an event that `judge` accepts, and returns what it did. A
+    /// sale or a start has the values that the point had before it forgot them. A fuelling that
+    /// starts takes the event's price and reading, and keeps them until it is over. A terminated
+    /// fuelling takes flow until hang up or offline. If the fuelling is a test, it is drawn instead
+    /// of sold.
     pub fn perform(&mut self, event: PointEvent) -> PointStep
         requires accepted { refusal_of event self.old ≡ None }
         requires fits { FitsGrowth event self.old }

@@ -2,11 +2,11 @@
 
 use site_base::{Millilitres, Mills, NozzleNo, Preset};
 
-/// What an accepted event does at its point. The values are those that stood before the point
+/// What an accepted event does at its point. The values are those that the point had before it
 /// forgot them.
 #[derive(Clone, Copy, Debug, PartialEq, Eq)]
 pub enum PointStep {
-    /// The point takes its new state, or stays; there is no more to tell.
+    /// The point takes its new state, or keeps its state. There is no more to tell.
     Moved,
     /// A nozzle is out, and the point calls for its release.
     Calling,
@@ -15,7 +15,7 @@ pub enum PointStep {
         preset: Preset,
         price: Mills,
     },
-    /// So much fuel (in millilitres) is added to the fuelling.
+    /// This much fuel (in millilitres) is added to the fuelling.
     Flowed {
         growth: u64,
     },
@@ -23,21 +23,20 @@ pub enum PointStep {
     HungUp,
     /// The nozzle is back in; no fuel has flowed.
     NoSale,
-    /// The fuelling is over: this volume by this nozzle at the price it took, and the prepaid
-    /// cents.
+    /// The fuelling is over: its nozzle, its volume, the price that it took, and the prepaid cents.
     Sold {
         nozzle: NozzleNo,
         volume: Millilitres,
         price: Mills,
         prepaid: Option<u32>,
     },
-    /// The test is over: it has drawn this volume by this nozzle.
+    /// The test is over: its nozzle, and the volume that it has drawn.
     Drawn {
         nozzle: NozzleNo,
         volume: Millilitres,
     },
     /// The release is taken back.
     Stopped,
-    /// The fuelling is suspended for good: it ends at hang up or offline.
+    /// The fuelling is suspended for good, until it ends at hang up or offline.
     Ending,
 }

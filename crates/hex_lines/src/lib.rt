@@ -1,6 +1,6 @@
 //! Lines of hexadecimal, read and written: those of a replay, of a trace, of a journal and of a
-//! demo's script. Plain digits, as most lines are, are read and written eight octets side by side;
-//! the crate `hex` does the rest.
+//! demo's script. Plain digits, as most lines have, are read and written eight octets at a time.
+//! The crate `hex` does the rest.
 #![tactic(auto)]
 
 mod line_reading;

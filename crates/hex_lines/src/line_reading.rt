@@ -1,4 +1,4 @@
-//! The text of one line, read.
+//! Reads the text of one line.
 
 ghost use Rattle.std.specs.Prelude.{◌≡◌, true, false, IfOk, OnOk, MatchResult};
 ghost use Rattle.std.specs.Io.BufRead.{strip_last};
@@ -12,7 +12,7 @@ use site_base::NoMemory;
 /// The most octets that a line may have before its line feed.
 pub const LINE_OCTETS: usize = 65_536;
 
-/// The line without a carriage return that ends it.
+/// Returns the line without a carriage return at its end.
 pub fn text_of(line: &[u8]) -> &[u8]
     ensures { result.now ≡ strip_last 13 line.now }
 {
@@ -33,8 +33,8 @@ pub enum LineText {
     NotHexadecimal,
 }
 
-/// Reads the text of a line, in which spaces don't count. The octets that it says take the place of
-/// what their buffer holds; the other buffer is room for the text without its spaces.
+/// Reads the text of a line, in which spaces don't count. Its octets replace what `octets` holds.
+/// `kept` is room for the text without its spaces.
 pub fn read_octets(
     text: &[u8],
     kept: &mut Vec<u8>,
@@ -80,7 +80,7 @@ fn put_without_spaces(text: &[u8], kept: &mut Vec<u8>) -> Result<(), NoMemory>
     Ok(())
 }
 
-/// An empty line or a comment.
+/// Is it an empty line or a comment?
 pub fn skips(kept: &[u8]) -> bool
     ensures { result ≡ is_skipped kept.now }
 {
@@ -90,7 +90,7 @@ pub fn skips(kept: &[u8]) -> bool
     }
 }
 
-/// Whether the text is hexadecimal; if so, its octets take the place of what the buffer holds.
+/// Returns whether the text is hexadecimal. If it is, its octets replace what the buffer holds.
 pub fn decode(text: &[u8], octets: &mut Vec<u8>) -> Result<bool, NoMemory>
     ensures { IfOk result (λ is. MatchResult (decode_of text.now)
         (λ bytes. (is ≡ true) × (octets.new.items ≡ bytes)) (λ _. is ≡ false)) }

@@ -1,4 +1,4 @@
-//! Messages, written as lines of hexadecimal.
+//! Writes messages as lines of hexadecimal.
 
 ghost use Rattle.std.specs.Prelude.{◌≡◌, ◌≤◌, ◌<◌, ◌+◌, ◌++◌, ◌∷◌, [], ◌*◌, ◌^◌, length};
 ghost use Rattle.std.specs.Prelude.{OnOk, replicate};

@@ -1,4 +1,4 @@
-//! Plain digits, eight octets side by side. The crate `hex` says what they mean, and reads and
+//! Plain digits, eight octets at a time. The crate `hex` defines what they mean, and reads and
 //! writes what is shorter or has spaces.
 
 ghost use Rattle.std.specs.Prelude.{◌≡◌, ◌≤◌, ◌+◌, ◌*◌, ℕ, length, map, true, Ok};
@@ -10,13 +10,14 @@ ghost use Rattle.hex_lines.specs.SideBySide.{high_value, is_other, low_value};
 
 use std::simd::prelude::*;
 
-/// The octets that are read or written side by side.
+/// The number of octets that are read or written at a time.
 pub const LANES: usize = 8;
 
 /// The lanes of two vectors in turn, as they stand in both of them joined.
 const IN_TURN: [usize; 16] = [0, 8, 1, 9, 2, 10, 3, 11, 4, 12, 5, 13, 6, 14, 7, 15];
 
-/// Whether the text is plain digits; if so, their octets take the place, else it means nothing.
+/// Returns whether the text is plain digits. If it is, their octets fill the place; otherwise the
+/// place means nothing.
 pub fn read_digits(text: &[u8], place: &mut [u8]) -> bool
     requires twice { length text.now ≡ 2 * length place.old }
     requires long { LANES ≤ length place.old }
@@ -71,7 +72,7 @@ fn values_in(octets: u8x16) -> u8x16
     number.simd_min(letter)
 }
 
-/// Writes octets as lower case digits, where there is just the place for them.
+/// Writes octets as lower case digits. The place has exactly the room for them.
 pub fn write_digits(octets: &[u8], place: &mut [u8])
     requires twice { length place.old ≡ 2 * length octets.now }
     requires long { LANES ≤ length octets.now }

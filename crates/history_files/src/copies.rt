@@ -1,4 +1,4 @@
-//! A file that takes its place in the folder whole: first it lies there under another name.
+//! A file that gets its place in the folder as a whole: first it is there under another name.
 
 ghost use Rattle.std.specs.Prelude.{◌≡◌, ◌++◌, IfOk, string_bytes};
 
@@ -12,13 +12,13 @@ use std::os::unix::fs::{MetadataExt, fchown};
 use std::rt::Files;
 use std::{fs, io};
 
-/// What a copy's name has after that of the file whose place it takes.
+/// The ending that a copy's name has after the name of the file that it replaces.
 pub const COPY_ENDING: &str = ".starting";
 
-/// Which file has the name that a copy takes.
+/// The file that has the name which a copy takes.
 #[derive(Drop)]
 pub enum Place<'a> {
-    /// This one, whose place it takes.
+    /// This one, which the copy replaces.
     Taken(&'a File),
     /// None.
     Free,
@@ -27,17 +27,17 @@ pub enum Place<'a> {
 /// A copy that has taken its place, or why it hasn't.
 #[derive(Drop)]
 pub enum Put {
-    /// It has taken its place. That the folder is flushed is the caller's part.
+    /// It has taken its place. The caller has to flush the folder.
     Done(File),
-    /// It hasn't: what was there stays, and no copy is left.
+    /// It hasn't. The file that was there stays, and no copy is left.
     Undone(io::Error),
     /// It is unknown which file has the name.
     Unknown,
 }
 
-/// Puts a copy with these octets under this name. It is locked; it has the owner and permissions of
-/// the file that it is like, or its owner alone may use it. All of it is on the disk before it
-/// takes the name.
+/// Puts a copy with these octets under this name, and locks it. The copy has the owner and the
+/// permissions of the file `like`; without one only its owner may use it. All of it is on the disk
+/// before it takes the name.
 pub fn put_copy<R: Files<File = File> + AllocGlobal>(
     rt: &R,
     place: &Place<'_>,

@@ -1,4 +1,4 @@
-//! The chapters of a folder as a disk.
+//! The chapters of a folder, as a disk.
 
 ghost use Rattle.std.specs.Prelude.{◌≡◌};
 ghost use Rattle.history_files.specs.Counts.{chapters_closed, octets_flushed, octets_put};

@@ -11,25 +11,25 @@ use std::io;
 use std::io::ErrorKind;
 use thiserror::Error;
 
-/// Why a history's folder isn't there to be used.
+/// Why a history's folder can't be used.
 #[derive(Clone, Copy, Debug, PartialEq, Eq, Error)]
 pub enum FileFault {
     /// An allocation failed.
     #[error("out of memory")]
     NoMemory,
-    /// The folder or a file in it can't be opened, or is none.
+    /// The folder or a file in it can't be opened, or isn't one.
     #[error("it can't be read")]
     Unread,
-    /// Another process has it, or this one prints into one of its files.
+    /// Another process has it, or this process prints into one of its files.
     #[error("it is in use")]
     InUse,
-    /// This process prints its faults into one of its files, so this one isn't printed.
+    /// This process prints its faults into one of its files. So this fault isn't printed.
     #[error("it is in use, for faults")]
     Untold,
-    /// It can't be made for good.
+    /// It can't be made and flushed.
     #[error("it can't be written")]
     Unwritten,
-    /// There is no chapter of this number, while there is one of a greater number.
+    /// There is no chapter of this number, but there is one of a greater number.
     #[error("chapter {0} is missing")]
     Missing(u64),
 }
@@ -56,7 +56,7 @@ impl From<NoMemory> for FileFault {
     }
 }
 
-/// The fault of a folder whose chapters aren't counted.
+/// Returns the fault of a folder whose chapters can't be counted.
 pub fn fault_of_folder(fault: FolderFault) -> FileFault
     ensures missing { (k : ℕ) → fault ≡ FolderFault.Missing k → result ≡ FileFault.Missing k }
     ensures memory { fault ≡ FolderFault.NoMemory → result ≡ FileFault.NoMemory }
@@ -69,7 +69,7 @@ pub fn fault_of_folder(fault: FolderFault) -> FileFault
     }
 }
 
-/// The fault of a file that can't be opened.
+/// Returns the fault of a file that can't be opened.
 pub fn fault_of(error: &io::Error) -> FileFault
     ensures memory { error_kind error.now ≡ ErrorKind.OutOfMemory → result ≡ FileFault.NoMemory }
     ensures unread { error_kind error.now ≢ ErrorKind.OutOfMemory → result ≡ FileFault.Unread }
@@ -81,7 +81,7 @@ pub fn fault_of(error: &io::Error) -> FileFault
     }
 }
 
-/// The fault of a file that can't be made for good.
+/// Returns the fault of a file that can't be made and flushed.
 pub fn fault_of_write(error: &io::Error) -> FileFault
     ensures memory { error_kind error.now ≡ ErrorKind.OutOfMemory → result ≡ FileFault.NoMemory }
     ensures unwritten { error_kind error.now ≢ ErrorKind.OutOfMemory
@@ -94,7 +94,7 @@ pub fn fault_of_write(error: &io::Error) -> FileFault
     }
 }
 
-/// The fault of a disk whose call failed so.
+/// Returns the fault of a disk whose call failed with this error.
 pub fn disk_fault_of(error: &io::Error) -> DiskFault
     ensures memory { error_kind error.now ≡ ErrorKind.OutOfMemory → result ≡ DiskFault.NoMemory }
     ensures failed { error_kind error.now ≢ ErrorKind.OutOfMemory → result ≡ DiskFault.Failed }

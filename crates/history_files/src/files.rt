@@ -1,4 +1,4 @@
-//! Opening the files of a history's folder, and the folder.
+//! Opens the files of a history's folder, and the folder.
 
 ghost use Rattle.std.specs.Prelude.{◌≡◌, ◌⊎◌, IfErr};
 
@@ -18,18 +18,18 @@ const OWNER_ALONE: u32 = 0o600;
 /// The permissions of a new folder: its owner uses it, and nobody else.
 const OWNERS_FOLDER: u32 = 0o700;
 
-/// Makes the folder of this name. The folder in which it lies has to be there.
+/// Makes the folder of this name. Its parent folder has to be there.
 pub fn make_folder(rt: &impl Files, folder: &str) -> io::Result<()> {
     DirBuilder::new().mode(OWNERS_FOLDER).create(rt, folder)
 }
 
-/// Has on the disk which files the folder of this name has.
+/// Flushes the list of the files that the folder of this name has.
 pub fn flush_folder<R: Files<File = File>>(rt: &R, folder: &str) -> io::Result<()> {
     OpenOptions::new().read(true).open(rt, folder)?.sync_all()
 }
 
-/// Opens the file of this name, or makes it, for this process alone: it is locked, and the process
-/// prints nothing into it.
+/// Opens the file of this name, or makes it, for this process alone. The file is locked, and the
+/// process doesn't print into it. `InUse` if another process has it, or has replaced it.
 pub fn open_alone<R: Files<File = File>>(rt: &R, name: &str) -> Result<File, FileFault> {
     let file = open_or_make(rt, name)?;
     check_streams(rt, &file)?;
@@ -60,8 +60,8 @@ fn open_or_make<R: Files<File = File>>(rt: &R, name: &str) -> Result<File, FileF
     }
 }
 
-/// Opens a file so, for reads and for writes at its end. Its descriptor is none of the standard
-/// streams', even where they are closed.
+/// Opens a file with these options, for reads and for appends. It doesn't get the descriptor of a
+/// standard stream, even if that is closed.
 pub fn open_by<R: Files<File = File>>(
     rt: &R,
     options: &mut OpenOptions,
@@ -71,9 +71,9 @@ pub fn open_by<R: Files<File = File>>(
     options.open(rt, name)?.try_clone()
 }
 
-/// All octets of the file of this name, which are on the disk then: whoever put the file there, a
-/// backup that was restored, say, may not have flushed it. What is no file isn't opened: it might
-/// never end.
+/// Reads all octets of the file of this name. They are flushed before it returns, because whoever
+/// put the file there (for example a restored backup) may not have flushed it. Anything but a file
+/// isn't opened: reading it might never end.
 pub fn read_file<R: Files<File = File> + AllocGlobal>(rt: &R, name: &str) -> io::Result<Vec<u8>> {
     if !fs::metadata(rt, name)?.is_file() {
         return Err(io::Error::from(ErrorKind::InvalidInput));

@@ -22,10 +22,9 @@ use std::rt::Files;
 const LOCK: &str = "lock";
 
 impl<'a, R: Files<File = File> + AllocGlobal> HistoryFolder<'a, R> {
-    /// Locks the folder of this name. It is made if it isn't there, but not the one in which it
-    /// lies.
+    /// Locks the folder of this name. Makes it if it isn't there, but not its parent folder.
     ///
-    /// `InUse` comes where another process has it, and `Missing` where the number of a chapter is
+    /// `InUse` means that another process has it, and `Missing` that the number of a chapter is
     /// left out.
     pub fn lock(rt: &'a R, folder: &str) -> Result<HistoryFolder<'a, R>, FileFault> {
         make_for_good(rt, folder)?;
@@ -48,14 +47,14 @@ impl<'a, R: Files<File = File> + AllocGlobal> HistoryFolder<'a, R> {
         })
     }
 
-    /// So many chapters it has.
+    /// Returns the number of its chapters.
     pub fn chapters(&self) -> u64
         ensures { result ≡ chapters_found self.now }
     {
         self.chapters
     }
 
-    /// The octets of its site file; None where it has none.
+    /// Returns the octets of its site file; None if it has none.
     pub fn site_file(&self) -> Result<Option<Vec<u8>>, FileFault> {
         let path = path_in(self.rt.alloc(), self.folder.as_str(), SITE_FILE)?;
         match read_file(self.rt, path.as_str()) {
@@ -66,7 +65,7 @@ impl<'a, R: Files<File = File> + AllocGlobal> HistoryFolder<'a, R> {
     }
 
     /// Keeps these octets as its site file, of which there is none yet. They are on the disk before
-    /// this answers.
+    /// it returns.
     pub fn keep_site_file(&self, octets: &[u8]) -> Result<(), FileFault> {
         let path = path_in(self.rt.alloc(), self.folder.as_str(), SITE_FILE)?;
         match put_copy(self.rt, &Place::Free, None, path.as_str(), octets) {
@@ -80,10 +79,10 @@ impl<'a, R: Files<File = File> + AllocGlobal> HistoryFolder<'a, R> {
         }
     }
 
-    /// Its chapters as a disk: the last one is open. Where there is none yet, the first one is made
-    /// as the disk is renewed.
+    /// Returns its chapters as a disk, whose last chapter is open. If there is none yet, the first
+    /// one is made when the disk is renewed.
     ///
-    /// `InUse` comes where another process has the last chapter, or has begun one more: it may, if
+    /// `InUse` means that another process has the last chapter, or has begun one more: it can, if
     /// somebody has removed the folder's lock.
     pub fn into_disk(self) -> Result<HistoryDisk<'a, R>, FileFault>
         ensures closed { IfOk result (λ disk.

@@ -7,8 +7,8 @@ use std::os::unix::fs::MetadataExt;
 use std::rt::Files;
 use std::{fs, io};
 
-/// Is it this file that has the name, itself and not by a link? Another process may have put
-/// another one in its place.
+/// Does this name lead to this file, and not by a link? Another process may have put another file
+/// in its place.
 pub fn is_at(rt: &impl Files, name: &str, file: &File) -> bool {
     is_of(fs::symlink_metadata(rt, name), file)
 }
@@ -28,7 +28,7 @@ fn is_of(found: io::Result<Metadata>, file: &File) -> bool
     }
 }
 
-/// Are these found of the same file?
+/// Do these two belong to the same file?
 pub fn is_same(there: &Metadata, here: &Metadata) -> bool {
     there.dev() == here.dev() && there.ino() == here.ino()
 }

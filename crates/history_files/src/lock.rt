@@ -4,7 +4,7 @@ use std::fs::{File, TryLockError};
 use std::io;
 use std::io::ErrorKind;
 
-/// Locks a file for this process; `WouldBlock` where another has it.
+/// Locks a file for this process; `WouldBlock` if another process has locked it.
 pub fn lock(file: &File) -> io::Result<()> {
     match file.try_lock() {
         Ok(()) => Ok(()),

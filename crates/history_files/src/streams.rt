@@ -1,4 +1,4 @@
-//! The standard streams of the process, which may go to a file of the history.
+//! The standard streams of the process, which may lead to a file of the history.
 
 ghost use Rattle.std.specs.Prelude.{◌≡◌, ◌≤◌, ◌⊎◌, IfErr};
 ghost use Rattle.chapters.specs.declared.history_end.TheConstants.{MOST_CHAPTERS};
@@ -16,7 +16,8 @@ const OUTPUT: &str = "/dev/stdout";
 /// Where it prints its faults.
 const ERRORS: &str = "/dev/stderr";
 
-/// Fails where the process prints into this file: `Untold` where its faults go there.
+/// Fails if the process prints into this file: `Untold` if its standard error leads there, `InUse`
+/// if its standard output does.
 pub fn check_streams(rt: &impl Files, file: &File) -> Result<(), FileFault>
     ensures { IfErr result (λ f. (f ≡ FileFault.Untold) ⊎ (f ≡ FileFault.InUse)) }
 {
@@ -29,8 +30,7 @@ pub fn check_streams(rt: &impl Files, file: &File) -> Result<(), FileFault>
     Ok(())
 }
 
-/// Fails where the process prints into the site file or a chapter of this folder, which has so
-/// many.
+/// Fails if the process prints into the site file or one of the `chapters` chapters of this folder.
 pub fn check_all_streams<R: Files + AllocGlobal>(
     rt: &R,
     folder: &str,

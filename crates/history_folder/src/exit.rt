@@ -1,4 +1,4 @@
-//! How the program ends where a history has a fault: the text, on standard error, and the status.
+//! How the program ends if a history has a fault: the text on standard error, and the status.
 
 ghost use Rattle.program_io.specs.Statuses.{IsFailed};
 
@@ -11,7 +11,7 @@ use std::process::ExitCode;
 /// The line of a chapter that names its site.
 const SITE_LINE: u64 = 2;
 
-/// How the program ends where the chapters of this folder aren't counted.
+/// Prints why the chapters of this folder can't be counted, and returns the exit status.
 pub fn exit_folder(rt: &impl Eprint, folder: &str, fault: FolderFault) -> ExitCode
     ensures { IsFailed result }
 {
@@ -22,7 +22,7 @@ pub fn exit_folder(rt: &impl Eprint, folder: &str, fault: FolderFault) -> ExitCo
     }
 }
 
-/// How the program ends where the chapters of a history are refused.
+/// Prints why the chapters of a history are refused, and returns the exit status.
 pub fn exit_history(rt: &impl Eprint, fault: HistoryFault) -> ExitCode
     ensures { IsFailed result }
 {

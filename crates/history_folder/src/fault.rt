@@ -1,4 +1,4 @@
-//! Why the chapters of a folder aren't counted.
+//! Why the chapters of a folder can't be counted.
 
 ghost use Rattle.std.specs.Prelude.{◌≡◌, ◌≢◌};
 ghost use Rattle.std.specs.IoError.{error_kind};
@@ -8,7 +8,7 @@ use std::io;
 use std::io::ErrorKind;
 use thiserror::Error;
 
-/// Why the chapters of a folder aren't counted.
+/// Why the chapters of a folder can't be counted.
 #[derive(Clone, Copy, Debug, PartialEq, Eq, Error)]
 pub enum FolderFault {
     /// An allocation failed.
@@ -17,7 +17,7 @@ pub enum FolderFault {
     /// The folder can't be listed.
     #[error("cannot read the folder")]
     Unread,
-    /// There is no chapter of this number, while there is one of a greater number.
+    /// There is no chapter of this number, but there is one of a greater number.
     #[error("chapter {0} is missing")]
     Missing(u64),
 }

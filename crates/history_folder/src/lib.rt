@@ -1,11 +1,10 @@
-//! A history's folder, read: its site file, and its chapters in order, at any time, also while a
-//! station writes it. Nothing is locked or changed.
+//! Reads a history's folder: its site file, and its chapters in order. It can do so at any time,
+//! even while a station writes them, and neither locks nor changes anything.
 //!
-//! `count_chapters` says how many chapters there are, or the first that is missing
-//! (`specs/Numbers.antt`); `chapter_name` and `chapter_number` are the two ways between a chapter
-//! and its file's name (`specs/Names.antt`); `read_folder` makes the rows
-//! again, and a `FolderWalk` gives them one after another, and finds where a seal stands
-//! (`specs/SealPlaces.antt`).
+//! `count_chapters` says how many chapters there are, or which one is missing first
+//! (`specs/Numbers.antt`). `chapter_name` and `chapter_number` are the two ways between a chapter
+//! and the name of its file (`specs/Names.antt`). `read_folder` restores the rows. A `FolderWalk`
+//! gives them one after another, and finds where a seal is (`specs/SealPlaces.antt`).
 #![tactic(auto)]
 
 mod exit;

@@ -12,11 +12,11 @@ use std::fs;
 use std::io::ErrorKind;
 use std::rt::Files;
 
-/// How many chapters a folder has. Files whose names are no chapter's don't count. A list in which
-/// a number is left out is made once more: a chapter that has just come may stand in it where the
-/// one before, that came meanwhile, doesn't.
+/// Counts the chapters in a folder. Files that don't have the name of a chapter don't count. If a
+/// number is left out, the folder is listed once more: a list may have a chapter that has just
+/// come, and not the one before it, which came in the meantime too.
 ///
-/// `Unread` comes where the folder can't be listed, and `Missing` where a number is left out.
+/// `Unread` means that the folder can't be listed, and `Missing` that a number is left out.
 pub fn count_chapters<R: Files + AllocGlobal>(rt: &R, folder: &str) -> Result<u64, FolderFault>
     ensures { IfOk result (λ count. count ≤ MOST_CHAPTERS) }
 {

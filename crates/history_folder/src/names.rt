@@ -7,7 +7,7 @@ ghost use Rattle.history_folder.specs.Names.{IsChapter, chapter_name, digits_of,
 use site_base::NoMemory;
 use std::alloc::Global;
 
-/// The name of the copy of a site file that a history's folder has.
+/// The name of a history folder's copy of its site file.
 pub const SITE_FILE: &str = "site.toml";
 
 /// What the name of a chapter's file ends with.
@@ -16,7 +16,7 @@ const ENDING: &str = ".journal";
 /// The digits of the number that such a name begins with.
 const DIGITS: usize = 6;
 
-/// The name of the file of the chapter of this number: six digits and an ending.
+/// Returns the name of the file of the chapter of this number: six digits and an ending.
 pub fn chapter_name(alloc: Global, number: u64) -> Result<String, NoMemory>
     requires { IsChapter number }
     ensures { IfOk result (λ name. string_bytes name ≡ chapter_name number) }
@@ -45,7 +45,7 @@ fn push_digit(text: &mut String, number: u64) -> Result<(), NoMemory>
     Ok(())
 }
 
-/// The number of the chapter whose file has this name. Other names have none.
+/// Returns the number of the chapter whose file has this name; None for any other name.
 pub fn chapter_number(name: &str) -> Option<u64>
     ensures chapter { IfSome result (λ n. IsChapter n × (name.now ≡ chapter_name n)) }
     ensures other { IfNone result ((n : ℕ) → IsChapter n → name.now ≢ chapter_name n) }
@@ -77,7 +77,7 @@ fn read_digits(digits: &[u8]) -> Option<u64>
     Some(number)
 }
 
-/// The path of the file of this name in a folder.
+/// Returns the path of the file of this name in a folder.
 pub fn path_in(alloc: Global, folder: &str, name: &str) -> Result<String, NoMemory>
     ensures { IfOk result (λ path. string_bytes path ≡ path_in folder.now name.now) }
 {

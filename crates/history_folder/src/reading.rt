@@ -22,9 +22,9 @@ use std::alloc::Global;
 use std::process::ExitCode;
 use std::rt::Files;
 
-/// What is read of the history in a folder, or how the program ends: a file can't be read, or has a
-/// fault, or a chapter is missing. The torn last line of the last chapter is left out. A folder
-/// without chapters is an empty history.
+/// Reads the history in a folder. A torn last line of the last chapter is left out. A folder
+/// without chapters is an empty history. If a file can't be read or has a fault, or a chapter is
+/// missing, prints that and returns the exit status.
 pub fn read_folder<R: Files + Eprint + AllocGlobal>(
     rt: &R,
     folder: &str,

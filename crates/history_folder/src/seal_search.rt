@@ -1,4 +1,4 @@
-//! Where a seal stands in a history.
+//! Where a seal is in a history.
 
 ghost use Rattle.std.specs.Prelude.{◌≡◌, IfOk, None};
 ghost use Rattle.chapters.specs.ChapterReading.{is_same_line};
@@ -14,12 +14,12 @@ use std::marker::Model;
 /// What a seal's line begins with.
 const SEAL_MARK: &[u8] = b"# seal ";
 
-/// Where a line stands in a history.
+/// Where a line is in a history.
 #[derive(Clone, Copy, Debug, PartialEq, Eq)]
 pub struct LinePlace {
     /// The number of its chapter.
     pub chapter: u64,
-    /// Its number there, counted from 1.
+    /// Its number in the chapter, counted from 1.
     pub line: u64,
 }
 
@@ -39,7 +39,7 @@ impl Model for SealSearch {
 }
 
 impl SealSearch {
-    /// For this seal, in 64 digits. It has looked at no chapter yet.
+    /// Returns a search for this seal, in 64 digits. It has looked at no chapter yet.
     pub fn new(alloc: Global, seal: &str) -> Result<SealSearch, NoMemory>
         ensures { IfOk result (λ search.
             search ≡ record { line = seal_line seal.now; place = None }) }
@@ -64,7 +64,7 @@ impl SealSearch {
         }
     }
 
-    /// Where the seal stands, as far as it has looked.
+    /// Returns where the seal is, as far as the search has looked.
     pub fn place(&self) -> Option<LinePlace>
         ensures { result ≡ self.now.place }
     {

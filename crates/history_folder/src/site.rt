@@ -12,8 +12,8 @@ use site_file::{ConfigFault, read_config};
 use std::process::ExitCode;
 use std::rt::Files;
 
-/// The site of a folder, with the octets of its site file, or how the program ends: the file can't
-/// be read, or has a fault. They are on the disk then.
+/// Reads the site of a folder, with the octets of its site file, which are flushed. If the file
+/// can't be read or has a fault, prints that and returns the exit status.
 pub fn read_folder_site<R: Files + Eprint + AllocGlobal>(
     rt: &R,
     folder: &str,
@@ -30,7 +30,8 @@ pub fn read_folder_site<R: Files + Eprint + AllocGlobal>(
     Ok((config, octets))
 }
 
-/// The site that the octets of a folder's site file say, or how the program ends.
+/// Reads the site from the octets of a folder's site file. If they have a fault, prints that and
+/// returns the exit status.
 pub fn site_in_folder<R: Eprint + AllocGlobal>(
     rt: &R,
     octets: &[u8],

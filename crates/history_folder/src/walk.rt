@@ -20,8 +20,8 @@ use std::marker::Model;
 use std::process::ExitCode;
 use std::rt::Files;
 
-/// A walk over the rows of a folder's history. Each row is given once the book has it; the chapters
-/// are read one after another, and each is checked as far as the walk has come.
+/// A walk over the rows of a folder's history. It gives each row once its book has that row. It
+/// reads the chapters one after another, and has checked each one as far as it has come.
 #[derive(Drop)]
 pub struct FolderWalk {
     reader: HistoryReader,
@@ -47,8 +47,8 @@ impl Model for FolderWalk {
 }
 
 impl FolderWalk {
-    /// A walk over the history in this folder, before its first row; or how the program ends: a
-    /// file can't be read, or has a fault, or a chapter is missing.
+    /// Begins a walk over the history in this folder, before its first row. If a file can't be read
+    /// or has a fault, or a chapter is missing, prints that and returns the exit status.
     pub fn open<R: Files + Eprint + AllocGlobal>(
         rt: &R,
         folder: &str,
@@ -67,7 +67,7 @@ impl FolderWalk {
         })
     }
 
-    /// Has the walk look for this seal, in 64 digits, in each chapter that it begins from now on.
+    /// Lets the walk look for this seal, in 64 digits, in each chapter that it begins from now on.
     pub fn seek_seal(&mut self, alloc: Global, seal: &str) -> Result<(), NoMemory>
         ensures { self.new ≡ self.old }
     {
@@ -75,7 +75,7 @@ impl FolderWalk {
         Ok(())
     }
 
-    /// Where the seal stands that it looks for, if a chapter that it has begun has it.
+    /// Returns where that seal is, if a chapter that the walk has begun has it.
     pub fn seal_place(&self) -> Option<LinePlace> {
         match &self.search {
             Some(search) => search.place(),
@@ -83,29 +83,29 @@ impl FolderWalk {
         }
     }
 
-    /// The book of the rows that were given.
+    /// Returns the book of the rows that were given.
     pub fn book(&self) -> &SiteBook
         ensures { result.now ≡ self.now.reader.book }
     {
         self.reader.book()
     }
 
-    /// Where the text ends that is read: right behind the line of the row that was given last, or
-    /// behind all lines once there is none. Its time is the last that was told up to there.
+    /// Returns where the text that was read ends: right after the line of the row that was given
+    /// last, or after all lines once no row is left. Its time is the last time up to there.
     pub fn end(&self) -> &HistoryEnd
         ensures { result.now ≡ self.now.reader.end }
     {
         self.reader.end()
     }
 
-    /// How many octets of the current chapter aren't read yet. Once no row is left, they are those
-    /// of its last line, which has no line feed.
+    /// Returns the number of octets of the current chapter that aren't read yet. Once no row is
+    /// left, they are the octets of a last line without a line feed.
     pub fn unread(&self) -> usize {
         self.text.len() - self.octets
     }
 
-    /// The next row; None behind the last one, once each chapter is read. Or how the program ends:
-    /// a chapter can't be read, or is refused.
+    /// Returns the next row; None after the last one, once each chapter is read. If a chapter can't
+    /// be read or is refused, prints that and returns the exit status.
     pub fn next<R: Files + Eprint + AllocGlobal>(
         &mut self,
         rt: &R,

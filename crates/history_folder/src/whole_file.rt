@@ -1,4 +1,4 @@
-//! The files of a folder, read.
+//! Reads the files of a folder.
 
 ghost use Rattle.std.specs.Prelude.{IfErr};
 ghost use Rattle.program_io.specs.Statuses.{IsFailed};

@@ -1,4 +1,4 @@
-//! What a history's chapters lie on.
+//! What holds a history's chapters.
 
 ghost use Rattle.std.specs.Prelude.{◌≡◌, ◌<◌, IfOk, OnOk, Option, false, length, true};
 ghost use Rattle.chapters.specs.declared.history_end.TheConstants.{MOST_CHAPTERS};
@@ -9,7 +9,7 @@ use site_base::NoMemory;
 use std::alloc::Global;
 use thiserror::Error;
 
-/// Why a call of a disk did nothing, or not all that it should.
+/// Why a call of a disk did nothing, or only a part.
 #[derive(Clone, Copy, Debug, PartialEq, Eq, Error)]
 pub enum DiskFault {
     /// An allocation failed.
@@ -31,51 +31,51 @@ impl From<NoMemory> for DiskFault {
     }
 }
 
-/// The chapters of a history: closed ones, which nothing changes any more, and the open one, whose
-/// octets grow behind their end, or others take their place. A crash, at whatever moment of a call
-/// or between two, leaves the closed chapters and an open one that begins with what was synced.
+/// The chapters of a history: closed ones, which nothing changes any more, and the open one. Octets
+/// are appended to the open chapter, or replace it. A crash, at any moment of a call or between two
+/// calls, leaves the closed chapters, and an open one that begins with what was synced.
 pub trait Disk: Drop {
-    /// What is known of its chapters. Of a real disk nothing is: no contract can tell what it
+    /// What is known of its chapters. Of a real disk nothing is known: no contract can say what it
     /// carries.
     ghost file: { Self → Option DiskFile };
 
-    /// So many chapters are closed.
+    /// Returns the number of closed chapters.
     fn closed(&self) -> u64
         ensures count { OfFile (λ f. result ≡ length f.closed) (file self.now) }
         ensures most { result < MOST_CHAPTERS };
 
-    /// All octets of the closed chapter at this place, counted from 0.
+    /// Returns all octets of the closed chapter at this place, counted from 0.
     fn read_closed(&mut self, alloc: Global, place: u64) -> Result<Vec<u8>, DiskFault>
         ensures octets { IfOk result (λ v. OfFile (ReadsClosed place v.items) (file self.old)) }
         ensures stays { file self.new ≡ file self.old };
 
-    /// All octets of the open chapter. Where a flush has failed, at whoever had it then, the next
-    /// read may give others.
+    /// Returns all octets of the open chapter. If a flush has failed, in this process or an earlier
+    /// one, the next read may return others.
     fn read(&mut self, alloc: Global) -> Result<Vec<u8>, DiskFault>
         ensures octets { IfOk result (λ v. OfFile (Reads v.items) (file self.old)) }
         ensures stays { OfFiles IsUntouched (file self.old) (file self.new) };
 
-    /// Puts octets behind those of the open chapter. Where that fails, nothing is said of what
-    /// stands behind those that were synced.
+    /// Appends octets to the open chapter. If that fails, nothing is known of what follows the
+    /// octets that were synced.
     fn append(&mut self, octets: &[u8]) -> Result<(), DiskFault>
         ensures ok { OnOk result (OfFiles (Appends octets.now) (file self.old) (file self.new)) }
         ensures moments { OfFiles Keeps (file self.old) (file self.new) };
 
-    /// Has all octets on the disk, before it answers; but not where a flush of the chapter has
-    /// failed before, at whoever had it then.
+    /// Returns once all octets are on the disk. That can't be relied on if a flush of the chapter
+    /// has failed before, in this process or an earlier one.
     fn sync(&mut self) -> Result<(), DiskFault>
         ensures ok { OnOk result (OfFiles Syncs (file self.old) (file self.new)) }
         ensures moments { OfFiles Keeps (file self.old) (file self.new) };
 
-    /// Puts these octets in place of the open chapter's, on the disk before it answers, whatever
-    /// flush has failed before. A crash leaves what was synced, or these.
+    /// Replaces the octets of the open chapter by these, and returns once these are on the disk,
+    /// whatever flush has failed before. A crash leaves what was synced, or these.
     fn renew(&mut self, octets: &[u8]) -> Result<(), DiskFault>
         ensures ok { OnOk result (OfFiles (Renews octets.now) (file self.old) (file self.new)) }
         ensures moments { OfFiles (KeepsEither octets.now) (file self.old) (file self.new) };
 
-    /// Closes the open chapter, all of which is synced, and opens the next one with these octets,
-    /// on the disk before it answers. It says false where there can't be a next one now: the open
-    /// one goes on. An error says that nothing is known of which one is open.
+    /// Closes the open chapter, all of which is synced, and opens the next one with these octets.
+    /// Returns once they are on the disk. Returns false if there can't be a next chapter now: the
+    /// open one continues. After an error it isn't known which chapter is open.
     fn begin(&mut self, octets: &[u8]) -> Result<bool, DiskFault>
         ensures begun { IfOk result (λ begun. begun ≡ true
             → OfFiles (Begins octets.now) (file self.old) (file self.new)) }

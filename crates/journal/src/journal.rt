@@ -21,7 +21,7 @@ use std::alloc::Global;
 use std::marker::Model;
 use std::time::Instant;
 
-/// Where the next chapter was refused, it is tried again so many kept rows later.
+/// The number of kept rows after which a refused next chapter is tried again.
 pub const RETRY_ROWS: u64 = 1_024;
 
 /// A round that begins so many seconds after the last seal, or more, ends with one.
@@ -30,11 +30,11 @@ const SEAL_SECONDS: u64 = 1;
 /// What became of a chapter that may be over.
 #[derive(Clone, Copy, Debug, PartialEq, Eq)]
 pub enum ChapterEnd {
-    /// It isn't over, or the next one was refused not long ago: nothing is done.
+    /// It isn't over, or the next one was refused a short while ago. Nothing was done.
     NotDue,
     /// It has ended, and the next one has begun.
     Ended,
-    /// It is over, but there can't be a next one now: it goes on.
+    /// It is over, but there can't be a next one now. It continues.
     Refused,
 }
 

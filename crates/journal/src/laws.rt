@@ -6,20 +6,20 @@ ghost use Rattle.journal.specs.Laws.{StationsRowsCanBeSpelled};
 ghost use Rattle.journal.specs.Laws.{StoredRowsAreFoundAgain, ToldRowsAreFoundAgain};
 ghost use Rattle.journal.specs.Lives.{CallsAreSteps};
 
-/// If a book is read of chapters that go on from what is on the disk, it begins with the rows
+/// If a book is read from chapters that continue what is on the disk, it begins with the rows
 /// stored there.
 pub fn stored_rows_are_found_again()
     ensures { StoredRowsAreFoundAgain }
 {}
 
-/// Once each row of the station is stored, each but those of reads will be found again, whatever
-/// then comes: any list of stores, ends of chapters, crashes and starts.
+/// Once each row of the station is stored, each except those of reads will be found again after any
+/// list of stores, ends of chapters, crashes and starts.
 pub fn told_rows_are_found_again()
     ensures { ToldRowsAreFoundAgain }
 {}
 
-/// Once each row is stored, those but reads stay the first that the station's book keeps, whatever
-/// comes: moves, stores, crashes and starts.
+/// Once each row is stored, those except reads stay the first that the station's book keeps, after
+/// any moves, stores, crashes and starts.
 pub fn told_rows_stay()
     ensures { ToldRowsStay }
 {}
@@ -30,19 +30,18 @@ pub fn calls_are_steps()
     ensures { CallsAreSteps }
 {}
 
-/// The times that a store writes rise behind the last one that the chapters tell, whatever stood in
-/// them when the history was opened.
+/// The times that a store writes rise from the last time in the chapters, whatever was in them when
+/// the history was opened.
 pub fn stamps_rise()
     ensures { StampsRise }
 {}
 
-/// Chapters that tell rows, with a beginning of the lines of more rows behind them, are never
-/// refused.
+/// Chapters with rows, followed by a beginning of the lines of more rows, are never refused.
 pub fn beginnings_are_read()
     ensures { BeginningsAreRead }
 {}
 
-/// A legal history can be made again of its requests.
+/// A legal history can be restored from its requests.
 pub fn histories_are_made_again()
     ensures { HistoriesAreMadeAgain }
 {}

@@ -1,11 +1,11 @@
-//! The journal of a station: what was told is stored.
+//! The journal of a station: what peers were sent is stored.
 //!
-//! A journal lies in the chapters of a history (crate `chapters`). A `StoredStation` is a station
-//! with its journal. It hands out what a peer is owed only while each row is stored, so that no
-//! octet tells of a row that a crash could lose (`specs/Stored.antt`). `open_journal` makes the
-//! station again of chapters that a crash may have left (`specs/Opening.antt`, `Faults.antt`).
+//! A journal is in the chapters of a history (crate `chapters`). A `StoredStation` is a station
+//! with its journal. It hands out a peer's pending output only while each row is stored, so that no
+//! octet tells of a row that a crash could lose (`specs/Stored.antt`). `open_journal` restores the
+//! station from chapters that a crash may have left (`specs/Opening.antt`, `Faults.antt`).
 //!
-//! A `Disk` is what the chapters lie on: `specs/Disks.antt` says what its calls do to them, at each
+//! A `Disk` is what holds the chapters: `specs/Disks.antt` says what its calls do to them, at each
 //! moment. The laws (`specs/Laws.antt`) say what is found again.
 #![tactic(auto)]
 

@@ -7,7 +7,8 @@ use chapters::ROWS_IN_MEMORY;
 use site_base::SiteConfig;
 use station::PIECE_ROWS;
 
-/// A site file allows a station's book so many rows at least: there is room for those of one read.
+/// The fewest rows that a site file may allow a station's book. They leave room for the rows of one
+/// read.
 pub const LEAST_ROWS: usize = 1_024;
 
 /// With so many rows in memory, or more, the next read of a peer may fill the book: they are

@@ -1,4 +1,4 @@
-//! A station that goes on where its journal ended.
+//! A station that continues where its journal ended.
 
 ghost use Rattle.std.specs.Prelude.{◌≡◌, ◌≤◌, IfErr, IfOk, Some, false, string_bytes};
 ghost use Rattle.station.specs.Gates.{open_gates};
@@ -26,31 +26,31 @@ use site_book::SiteBook;
 use stamps::Stamp;
 use std::alloc::Global;
 
-/// A station that goes on where its journal ended.
+/// A station that continues where its journal ended.
 #[derive(Drop)]
 pub struct Opened<D: Disk> {
     /// The station.
     pub station: StoredStation<D>,
-    /// So many rows the journal had.
+    /// The number of rows that the journal had.
     pub rows: u64,
 }
 
-/// A journal that isn't opened.
+/// A journal that couldn't be opened.
 #[derive(Drop)]
 pub struct Unopened<D: Disk> {
     /// Why.
     pub fault: OpenFault,
-    /// The disk that it lies on.
+    /// The disk that holds it.
     pub disk: D,
 }
 
-/// Opens the station of the history of the site of this name, whatever a crash has left of it: its
-/// rows are made again, and the session of each till that is signed on is gone, so that it is
-/// signed off, at this time. Where nothing is written yet there are no rows.
+/// Opens the station of the history of the site of this name, whatever a crash has left of it.
+/// Restores its rows, and signs off each till that was signed on, at this time, because its session
+/// is gone. If nothing is written yet, there are no rows.
 ///
-/// `Unread` comes where a chapter can't be read, and `Refused` where one is wrong, or doesn't go on
-/// from the one before: these leave the chapters as they are. `Unwritten` comes where
-/// the disk takes no more.
+/// `Unread` means that a chapter can't be read, and `Refused` that one is wrong, or doesn't
+/// continue the one before it. Both leave the chapters as they are. `Unwritten` means that the disk
+/// takes no more.
 pub fn open_journal<D: Disk>(
     alloc: Global,
     config: &SiteConfig,
@@ -90,8 +90,8 @@ pub fn open_journal<D: Disk>(
     }
 }
 
-/// The station of what was recovered from this disk. Each till that is signed on is signed off, and
-/// that is stored at this time. The faults are `NoMemory` and `Unwritten`.
+/// Returns the station of what was recovered from this disk. Signs off each till that is signed on,
+/// and stores that at this time. The faults are `NoMemory` and `Unwritten`.
 pub fn resume<D: Disk>(
     alloc: Global,
     recovered: ReadHistory,

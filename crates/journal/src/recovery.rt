@@ -26,7 +26,7 @@ pub enum OpenFault {
     /// Its octets can't be read.
     Unread,
     /// A chapter isn't one of this site's history: a first line, a row's line or a seal is wrong,
-    /// or it doesn't go on from the one before.
+    /// or it doesn't continue the chapter before it.
     Refused(HistoryFault),
     /// The disk takes no more.
     Unwritten,
@@ -44,13 +44,13 @@ impl From<NoMemory> for OpenFault {
 }
 
 /// Recovers the history of the site of this name from a disk, whatever a crash has left there. What
-/// was read is written anew in the open chapter's place, since the disk may not have what a read
-/// gives where a flush had failed. A torn last line is left out: nobody was told of it. A history
-/// that isn't begun yet gets the first chapter's first lines.
+/// was read is written anew in place of the open chapter, because after a failed flush the disk may
+/// not have what a read returns. A torn last line is left out: nobody was sent anything of it. A
+/// history that hasn't begun gets the first lines of its first chapter.
 ///
-/// `Unread` comes where a chapter can't be read, and `Refused` where one is wrong, or doesn't go on
-/// from the one before: these leave the chapters as they are. `Unwritten` comes where
-/// the disk takes no more.
+/// `Unread` means that a chapter can't be read, and `Refused` that one is wrong, or doesn't
+/// continue the one before it. Both leave the chapters as they are. `Unwritten` means that the disk
+/// takes no more.
 pub fn recover<D: Disk>(
     alloc: Global,
     config: &SiteConfig,

@@ -37,9 +37,9 @@ use std::alloc::Global;
 use std::marker::Model;
 use std::time::Instant;
 
-/// A station, and its journal if it has one. Its moves are the station's own; what a peer is owed
-/// is handed out only while each row is stored. The rows in memory are forgotten once they are
-/// stored, and what is unpaid among them was read.
+/// A station, and its journal if it has one. Its moves are the station's own. A peer's pending
+/// output is handed out only while each row is stored. Rows in memory are forgotten only after they
+/// are stored, and after it was read which transactions among them are unpaid.
 #[derive(Drop)]
 pub struct StoredStation<D: Disk> {
     alloc: Global,
@@ -60,7 +60,7 @@ impl<D: Disk> Model for StoredStation<D> {
 }
 
 impl<D: Disk> StoredStation<D> {
-    /// A station on this site without a journal: whatever it owes may be told.
+    /// Returns a station on this site without a journal. Its pending output may always be sent.
     pub fn open_without(alloc: Global, config: &SiteConfig) -> Result<StoredStation<D>, NoMemory>
         requires { LEAST_ROWS ≤ config.now.rows }
         ensures station { IfOk result (λ s. s.station
@@ -104,7 +104,7 @@ impl<D: Disk> StoredStation<D> {
         }
     }
 
-    /// Are so many rows in memory that those of one read more may fill the book?
+    /// Are there so many rows in memory that the rows of one more read may fill the book?
     pub fn is_crowded(&self) -> bool
         ensures crowded { result ≡ is_crowded self.now.station.book }
         ensures room { result ≡ false → HasRoomToHear self.now.station.book }
@@ -116,9 +116,8 @@ impl<D: Disk> StoredStation<D> {
         true
     }
 
-    /// Forgets the rows in memory, each of which is stored: there is room for those of one read
-    /// then. The site goes on, and so does what is unpaid. Where memory is wanting nothing is
-    /// forgotten.
+    /// Forgets the rows in memory, each of which is stored. Then there is room for the rows of one
+    /// read. The site and its unpaid transactions stay. If memory runs out, nothing is forgotten.
     pub fn forget_rows(&mut self) -> Result<(), NoMemory>
         requires { is_all_stored self.old ≡ true }
         ensures forgets { OnOk result (self.new.station ≡ without_old_rows self.old.station) }
@@ -138,29 +137,29 @@ impl<D: Disk> StoredStation<D> {
         self.unpaid.read(self.alloc, self.station.book())
     }
 
-    /// The transactions that were unpaid when they were looked up last.
+    /// Returns the transactions that were unpaid at the last `read_unpaid`.
     pub fn unpaid(&self) -> &[NamedSale]
         ensures { result.now ≡ self.now.unpaid.sales }
     {
         self.unpaid.as_slice()
     }
 
-    /// Who may speak where, as `Station::set_gates` says.
+    /// Sets who may send where, as `Station::set_gates` says.
     pub fn set_gates(&mut self, gates: Gates)
         ensures { self.new ≡ with_station (record self.old.station { gates = gates }) self.old }
     {
         self.station.set_gates(gates);
     }
 
-    /// The doors and the house till.
+    /// Returns the doors and the house till.
     pub fn gates(&self) -> &Gates
         ensures { result.now ≡ self.now.station.gates }
     {
         self.station.gates()
     }
 
-    /// The book of the station. No key above 1,407 is given, and its configuration allows 1,024
-    /// rows or more, by the station's type.
+    /// Returns the book of the station. By the station's type no peer has a key above 1,407, and
+    /// the book's configuration allows 1,024 rows or more.
     pub fn book(&self) -> &SiteBook
         ensures book { result.now ≡ self.now.station.book }
         ensures keys { (k : ℕ) → PEERS ≤ k → peer_at self.now.station.peers k ≡ None }
@@ -169,7 +168,7 @@ impl<D: Disk> StoredStation<D> {
         self.station.book()
     }
 
-    /// A peer arrives, as `Station::arrive` says.
+    /// Adds a peer, as `Station::arrive` says.
     pub fn arrive(&mut self) -> Result<Option<usize>, NoMemory>
         ensures ok { IfOk result (λ key. Arrives key self.old.station self.new.station) }
         ensures err { OnErr result (self.new.station ≡ self.old.station) }
@@ -178,7 +177,7 @@ impl<D: Disk> StoredStation<D> {
         self.station.arrive()
     }
 
-    /// A peer arrives at a door, as `Station::arrive_at` says.
+    /// Adds a peer at a door, as `Station::arrive_at` says.
     pub fn arrive_at(&mut self, door: usize) -> Result<Option<usize>, NoMemory>
         ensures ok { IfOk result (λ key. ArrivesAt door key self.old.station self.new.station) }
         ensures err { OnErr result (self.new.station ≡ self.old.station) }
@@ -187,21 +186,21 @@ impl<D: Disk> StoredStation<D> {
         self.station.arrive_at(door)
     }
 
-    /// Whom a session that lasts is of, as `Station::speaker` says.
+    /// Returns the node of an active session, as `Station::speaker` says.
     pub fn speaker(&self, key: usize) -> Option<[u8; 2]>
         ensures { result ≡ speaker_at self.now.station key }
     {
         self.station.speaker(key)
     }
 
-    /// How many sessions of a node last.
+    /// Returns the number of active sessions of a node.
     pub fn session_count(&self, node: [u8; 2]) -> usize
         ensures { result ≡ count_at node self.now.station.peers }
     {
         self.station.session_count(node)
     }
 
-    /// The house till ends the release of a point, as `Station::end_release` says.
+    /// Ends the release of a point by the house till, as `Station::end_release` says.
     pub fn end_release(&mut self, p: FpNo)
         ensures station { (on : Bool) × (off : Bool)
             × (self.new.station ≡ end_release on off p self.old.station) }
@@ -210,7 +209,7 @@ impl<D: Disk> StoredStation<D> {
         self.station.end_release(p);
     }
 
-    /// The dispenser of a point is gone, as `Station::lose_dispenser` says.
+    /// Loses the dispenser of a point, as `Station::lose_dispenser` says.
     pub fn lose_dispenser(&mut self, p: FpNo)
         ensures station { (memory : Bool) × (self.new.station ≡ lose memory p self.old.station) }
         ensures journal { self.new.journal ≡ self.old.journal }
@@ -234,7 +233,7 @@ impl<D: Disk> StoredStation<D> {
         self.station.hear(key, octets);
     }
 
-    /// The last seal of the history, 64 zeros where it has none; None without a history.
+    /// Returns the last seal of the history, 64 zeros if it has none; None without a history.
     pub fn last_seal(&self) -> Option<&str>
         ensures seal { IfSome result (λ seal. IfSome self.now.journal
             (λ j. seal.now ≡ j.end.seal)) }
@@ -246,8 +245,8 @@ impl<D: Disk> StoredStation<D> {
         }
     }
 
-    /// When the round began that ended with the last seal, if there is a history, and a round has
-    /// ended with one since the start.
+    /// Returns when the round began that ended with the last seal. None without a history, and if
+    /// no round has ended with a seal since the start.
     pub fn sealed_at(&self) -> Option<Instant> {
         match &self.journal {
             None => None,
@@ -255,7 +254,7 @@ impl<D: Disk> StoredStation<D> {
         }
     }
 
-    /// How many chapters of the history are closed; None without a history.
+    /// Returns the number of closed chapters of the history; None without a history.
     pub fn closed_chapters(&self) -> Option<u64>
         ensures count { IfSome result (λ count. IfSome self.now.journal
             (λ j. OfFile (λ f. count ≡ length f.closed) j.file)) }
@@ -267,8 +266,8 @@ impl<D: Disk> StoredStation<D> {
         }
     }
 
-    /// The last time that the history tells, if there is one and it tells one: once each row is
-    /// stored, that of the last kept row.
+    /// Returns the last time in the history, if there is one. Once each row is stored, it is that
+    /// of the last kept row.
     pub fn last_time(&self) -> Option<Stamp>
         ensures { result ≡ time_of self.now.journal }
     {
@@ -278,7 +277,7 @@ impl<D: Disk> StoredStation<D> {
         }
     }
 
-    /// The time of the first row of the shift that is open, if there is a history, the shift has a
+    /// Returns the time of the first row of the open shift, if there is a history, the shift has a
     /// row, and its time is known.
     pub fn open_since(&self) -> Option<Stamp>
         ensures { result ≡ since_of self.now.journal }
@@ -289,8 +288,8 @@ impl<D: Disk> StoredStation<D> {
         }
     }
 
-    /// A round begins at this time, if it is known. It says whether that is before the last time
-    /// that the history tells, which is repeated then.
+    /// Begins a round at this time, if it is known. Returns whether that is before the last time in
+    /// the history, which is then used again.
     pub fn begin_round(&mut self, clock: Option<Stamp>, at: Instant) -> bool
         ensures station { self.new.station ≡ self.old.station }
         ensures stored { is_all_stored self.new ≡ is_all_stored self.old }
@@ -305,8 +304,8 @@ impl<D: Disk> StoredStation<D> {
         }
     }
 
-    /// Puts a seal behind the last row of the journal, if it has one that isn't sealed: at the
-    /// day's end. After an error the journal takes no more.
+    /// Appends a seal after the last row of the journal, if that row isn't sealed, at the day's
+    /// end. After an error the journal takes no more.
     pub fn seal(&mut self) -> Result<(), DiskFault>
         ensures station { self.new.station ≡ self.old.station }
         ensures stored { is_all_stored self.new ≡ is_all_stored self.old }
@@ -320,9 +319,8 @@ impl<D: Disk> StoredStation<D> {
         }
     }
 
-    /// Stores each row that isn't stored yet: what peers are owed may be told then. Where that
-    /// fails, nothing may be told until a later store succeeds; behind a disk that has failed none
-    /// does.
+    /// Stores each row that isn't stored yet. Then pending output may be sent. If storing fails,
+    /// nothing may be sent until a later store succeeds; after a failure of the disk none does.
     pub fn store(&mut self) -> Result<(), DiskFault>
         ensures station { self.new.station ≡ self.old.station }
         ensures stored { OnOk result (is_all_stored self.new ≡ true) }
@@ -342,9 +340,9 @@ impl<D: Disk> StoredStation<D> {
         }
     }
 
-    /// Ends the chapter of the journal, if there is one that is over: a shift was closed in it, or
-    /// it has 1,000,000 rows. Where there can't be a next one now the open one goes on, and nothing
-    /// is lost by a longer chapter. After an error the journal may take no more.
+    /// Ends the chapter of the journal, if it is over: a shift was closed in it, or it has
+    /// 1,000,000 rows. If there can't be a next chapter now, the open one continues, and nothing is
+    /// lost by a longer chapter. After an error the journal may take no more.
     pub fn end_chapter_if_over(&mut self) -> Result<ChapterEnd, DiskFault>
         requires { is_all_stored self.old ≡ true }
         ensures station { self.new.station ≡ self.old.station }
@@ -360,7 +358,7 @@ impl<D: Disk> StoredStation<D> {
         }
     }
 
-    /// Is each row stored, so that what peers are owed may be told?
+    /// Is each row stored, so that pending output may be sent?
     pub fn is_all_stored(&self) -> bool
         ensures { result ≡ is_all_stored self.now }
     {
@@ -370,7 +368,7 @@ impl<D: Disk> StoredStation<D> {
         }
     }
 
-    /// The octets that a peer may be told now: those that it is owed, while each row is stored.
+    /// Returns the octets that a peer may be sent now: its pending output, if each row is stored.
     pub fn told_octets(&self, key: usize) -> &[u8]
         ensures { result.now ≡ told_at self.now key }
     {
@@ -381,14 +379,15 @@ impl<D: Disk> StoredStation<D> {
         }
     }
 
-    /// Is a peer owed octets, which may be told or not yet?
+    /// Has a peer pending output, whether it may be sent yet or not?
     pub fn is_owed(&self, key: usize) -> bool
         ensures { result ≡ not (length (owed_at self.now.station key) == 0) }
     {
         !self.station.owed_octets(key).is_empty()
     }
 
-    /// The least key, from this one on, whose peer is owed octets, as `Station::next_owed` says.
+    /// Returns the least key, from this one on, whose peer has pending output, as
+    /// `Station::next_owed` says.
     pub fn next_owed(&self, from: usize) -> Option<usize>
         ensures found { IfSome result (λ key. IsNextOwed from key self.now.station) }
         ensures none { IfNone result (NoneIsOwed from self.now.station) }
@@ -396,35 +395,36 @@ impl<D: Disk> StoredStation<D> {
         self.station.next_owed(from)
     }
 
-    /// A peer has taken so many of the octets that it is owed.
+    /// Notes that a peer has taken this many octets of its pending output.
     pub fn take(&mut self, key: usize, n: usize)
         ensures { self.new ≡ with_station (with_taken key n self.old.station) self.old }
     {
         self.station.take(key, n);
     }
 
-    /// The octets of a peer have ended, as `Station::finish` says.
+    /// Notes that the octets of a peer have ended, as `Station::finish` says.
     pub fn finish(&mut self, key: usize)
         ensures { self.new ≡ with_station (with_end key self.old.station) self.old }
     {
         self.station.finish(key);
     }
 
-    /// A peer is gone, as `Station::leave` says.
+    /// Removes a peer, as `Station::leave` says.
     pub fn leave(&mut self, key: usize)
         ensures { self.new ≡ with_station (without_peer key self.old.station) self.old }
     {
         self.station.leave(key);
     }
 
-    /// How the session of a peer ended; None while it lasts, and without a peer.
+    /// Returns how the session of a peer ended. None while it is active, and if there is no such
+    /// peer.
     pub fn end(&self, key: usize) -> Option<PeerEnd>
         ensures { result ≡ end_at self.now.station key }
     {
         self.station.end(key)
     }
 
-    /// The originator of a peer's first message.
+    /// Returns the originator of a peer's first message.
     pub fn node(&self, key: usize) -> Option<[u8; 2]>
         ensures { result ≡ node_at self.now.station key }
     {

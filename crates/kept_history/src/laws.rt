@@ -1,9 +1,9 @@
-//! The law of the rows that are kept.
+//! The law of the kept rows.
 
 ghost use Rattle.kept_history.specs.Laws.{CanLeaveOutReads};
 
-/// Of each legal history, from whatever site, the rows that are kept are a legal history, replies
-/// included, which leads to the same site.
+/// In each legal history, from whatever site, the kept rows are a legal history, replies included,
+/// and lead to the same site.
 pub fn reads_can_be_left_out()
     ensures { CanLeaveOutReads }
 {}

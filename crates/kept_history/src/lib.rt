@@ -1,8 +1,7 @@
 //! Which rows of a history have to be kept, and that they are enough: laws, no code.
 //!
-//! A station's history is to keep each row but those of reads. A read changes nothing, whether it
-//! is accepted or refused, so the rows that are kept are a legal history too, and lead to the same
-//! site.
+//! A station's history keeps each row except those of reads. A read changes nothing, whether it is
+//! accepted or refused. So the kept rows are a legal history too, and lead to the same site.
 #![tactic(auto)]
 
 mod laws;

@@ -48,7 +48,7 @@ impl Model for Contents {
 }
 
 impl Contents {
-    /// Nothing is written.
+    /// Returns chapters in which nothing is written.
     pub fn new(alloc: Global) -> Contents
         ensures { result ≡ empty_file }
     {
@@ -62,7 +62,7 @@ impl Contents {
         }
     }
 
-    /// So many chapters are closed.
+    /// Returns the number of closed chapters.
     pub fn closed(&self) -> usize
         ensures count { result ≡ length self.now.closed }
         ensures most { result < MOST_CHAPTERS }
@@ -70,7 +70,7 @@ impl Contents {
         self.closed.len()
     }
 
-    /// The octets of the closed chapter at this place, counted from 0.
+    /// Returns the octets of the closed chapter at this place, counted from 0.
     pub fn read_closed(&self, alloc: Global, place: usize) -> Result<Vec<u8>, DiskFault>
         ensures { IfOk result (λ v. ReadsClosed place v.items self.now) }
     {
@@ -80,7 +80,7 @@ impl Contents {
         }
     }
 
-    /// The octets of the open chapter.
+    /// Returns the octets of the open chapter.
     pub fn read(&self, alloc: Global) -> Result<Vec<u8>, NoMemory>
         ensures { IfOk result (λ v. Reads v.items self.now) }
     {
@@ -88,7 +88,7 @@ impl Contents {
         Ok(octets)
     }
 
-    /// Puts octets behind those of the open chapter.
+    /// Appends octets to the open chapter.
     pub fn append(&mut self, octets: &[u8]) -> Result<(), NoMemory>
         ensures ok { OnOk result (Appends octets.now self.old self.new) }
         ensures moments { Keeps self.old self.new }
@@ -98,7 +98,7 @@ impl Contents {
         Ok(())
     }
 
-    /// Syncs all octets. Where a flush has failed before, none is synced: the system takes them for
+    /// Syncs all octets. If a flush has failed before, it syncs none: the system takes them for
     /// written.
     pub fn sync(&mut self) -> Result<(), NoMemory>
         ensures ok { OnOk result (Syncs self.old self.new) }
@@ -111,7 +111,7 @@ impl Contents {
         Ok(())
     }
 
-    /// A flush fails.
+    /// Lets a flush fail.
     pub fn fail_sync(&mut self)
         ensures moments { Keeps self.old self.new }
         ensures sound { self.new ≡ record self.old { sound = false } }
@@ -119,7 +119,7 @@ impl Contents {
         self.is_sound = false;
     }
 
-    /// Puts these octets in place of the open chapter's, all of them synced.
+    /// Replaces the octets of the open chapter by these, all of them synced.
     pub fn renew(&mut self, octets: &[u8]) -> Result<(), NoMemory>
         ensures ok { OnOk result (Renews octets.now self.old self.new) }
         ensures moments { KeepsEither octets.now self.old self.new }
@@ -132,8 +132,7 @@ impl Contents {
         Ok(())
     }
 
-    /// May the next chapter begin? Not behind a flush that has failed: what is read may not be on
-    /// the disk.
+    /// May the next chapter begin? Not after a failed flush: what is read may not be on the disk.
     pub fn may_begin(&self) -> bool
         ensures sound { result ≡ true → self.now.sound ≡ true }
         ensures room { result ≡ true → length self.now.closed + 1 < MOST_CHAPTERS }
@@ -157,7 +156,7 @@ impl Contents {
         Ok(())
     }
 
-    /// What a crash has left of them, with so many octets more than were synced.
+    /// Returns what a crash has left of them: what was synced, and this many octets more.
     pub fn after_crash(self, kept: usize) -> Contents
         ensures { IsLeftOf kept self result }
     {

@@ -6,11 +6,11 @@ ghost use Rattle.memory_disk.specs.Calls.{fate_of, was_cut};
 /// The call at which a disk is cut, and how much of it is done.
 #[derive(Clone, Copy, Debug, PartialEq, Eq)]
 pub struct Cut {
-    /// So many calls come before it.
+    /// The number of calls before it.
     pub calls: u64,
-    /// Of an append, so many octets are written.
+    /// The number of octets that an append writes.
     pub octets: usize,
-    /// Whether octets are renewed, or the next chapter has begun.
+    /// Whether a renewal is done, or the next chapter has begun.
     pub is_done: bool,
 }
 
@@ -28,14 +28,14 @@ pub enum Fate {
 /// The calls of a disk, and where it is cut.
 #[derive(Clone, Copy, Debug)]
 pub struct Calls {
-    /// So many have come.
+    /// The number of calls so far.
     pub count: u64,
     /// Where it is cut, if it is.
     pub cut: Option<Cut>,
 }
 
 impl Calls {
-    /// No calls have come, and none is cut.
+    /// Returns no calls, none of which is cut.
     pub fn new() -> Calls
         ensures { result ≡ record { count = 0; cut = None } }
     {
@@ -45,7 +45,7 @@ impl Calls {
         }
     }
 
-    /// No calls have come, and one is cut there.
+    /// Returns no calls, one of which will be cut there.
     pub fn cut_at(cut: Cut) -> Calls
         ensures { result ≡ record { count = 0; cut = Some cut } }
     {
@@ -55,7 +55,7 @@ impl Calls {
         }
     }
 
-    /// What becomes of the next call, which has come then.
+    /// Counts the next call, and returns what becomes of it.
     pub fn next(&mut self) -> Fate
         ensures fate { result ≡ fate_of self.old.count self.old.cut }
         ensures count { self.new.count ≡ min (self.old.count + 1) u64.MAX }

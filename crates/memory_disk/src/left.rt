@@ -6,7 +6,7 @@ use site_base::NoMemory;
 use std::alloc::Global;
 use std::marker::Model;
 
-/// What a crash leaves: the closed chapters, and a front of the open one.
+/// What a crash leaves: the closed chapters, and a prefix of the open one.
 #[derive(Drop)]
 pub struct Left {
     closed: Vec<Vec<u8>>,
@@ -24,7 +24,7 @@ impl Model for Left {
 }
 
 impl Left {
-    /// A copy of these chapters.
+    /// Returns a copy of these chapters.
     pub fn copy_of(alloc: Global, closed: &[Vec<u8>], front: &[u8]) -> Result<Left, NoMemory>
         ensures { IfOk result (λ l. l
             ≡ record { closed = map (λ t. t.items) closed.now; front = front.now }) }

@@ -13,7 +13,7 @@ pub struct LentDisk<'a> {
 }
 
 impl<'a> LentDisk<'a> {
-    /// The borrowed disk.
+    /// Borrows the disk.
     pub fn new(disk: &'a mut MemoryDisk) -> LentDisk<'a>
         ensures { ⟦<LentDisk<'a> as Disk>⟧.file result ≡ Some disk.old.file }
     {

@@ -10,9 +10,9 @@ use journal::{Disk, DiskFault};
 use std::alloc::Global;
 use std::marker::Model;
 
-/// A disk in memory. At the call at which it is cut it fails: of an append the first octets are
-/// written, a sync does nothing, and a renewal, or the begin of a chapter, is done or not. From
-/// then on each call fails, and does nothing.
+/// A disk in memory. At the call at which it is cut it fails: an append writes its first octets, a
+/// sync does nothing, and a renewal, or the begin of a chapter, is done or not. From then on each
+/// call fails, and does nothing.
 #[derive(Drop)]
 pub struct MemoryDisk {
     contents: Contents,
@@ -29,7 +29,7 @@ impl Model for MemoryDisk {
 }
 
 impl MemoryDisk {
-    /// A disk on which nothing is written, and which isn't cut.
+    /// Returns a disk on which nothing is written, and which isn't cut.
     pub fn new(alloc: Global) -> MemoryDisk
         ensures { result ≡ record { file = empty_file; count = 0; cut = None } }
     {
@@ -39,14 +39,14 @@ impl MemoryDisk {
         }
     }
 
-    /// It is cut there. Its calls are counted from here on.
+    /// Cuts it there. Its calls are counted from here on.
     pub fn cut_at(&mut self, cut: Cut)
         ensures { self.new ≡ record self.old { count = 0; cut = Some cut } }
     {
         self.calls = Calls::cut_at(cut);
     }
 
-    /// So many calls have come.
+    /// Returns the number of calls so far.
     pub fn calls(&self) -> u64
         ensures { result ≡ self.now.count }
     {
@@ -60,9 +60,8 @@ impl MemoryDisk {
         self.calls.is_cut()
     }
 
-    /// The disk as a start finds it behind a crash: the closed chapters, and of the open one what
-    /// was synced, with so many octets more of what stands behind that, as far as there are any. It
-    /// isn't cut any more.
+    /// Returns the disk as a start finds it after a crash: the closed chapters, and of the open one
+    /// what was synced, with up to `kept` octets more of what follows that. It isn't cut any more.
     pub fn after_crash(self, kept: usize) -> MemoryDisk
         ensures file { IsLeftOf kept self.file result.file }
         ensures cut { result.cut ≡ None }
@@ -73,7 +72,7 @@ impl MemoryDisk {
         }
     }
 
-    /// The disk as a start finds it where the process alone has ended: what is read is what was
+    /// Returns the disk as a start finds it if only the process has ended: what is read is what was
     /// written. It isn't cut any more.
     pub fn after_stop(self) -> MemoryDisk
         ensures { result ≡ record { file = self.file; count = 0; cut = None } }

@@ -16,7 +16,7 @@ use site_core::Site;
 pub struct NozzleFigures {
     /// Its fuelling point.
     pub point: FpNo,
-    /// Its number there.
+    /// Its number at the point.
     pub nozzle: NozzleNo,
     /// The product that it delivers.
     pub product: ProductNo,
@@ -24,13 +24,13 @@ pub struct NozzleFigures {
     pub opening: Millilitres,
     /// The meter's reading after them.
     pub closing: Millilitres,
-    /// What flowed by the meter.
+    /// What flowed through the meter.
     pub metered: u64,
     /// What was sold of it.
     pub sold: u64,
     /// What tests drew of it.
     pub drawn: u64,
-    /// What is in the fuelling under way after the rows.
+    /// What is in a fuelling that is in progress after the rows.
     pub running: u64,
     /// How often the meter was replaced.
     pub replaced: u64,
@@ -38,9 +38,9 @@ pub struct NozzleFigures {
     pub raised: u64,
     /// By how much they began below them.
     pub lowered: u64,
-    /// How many reported readings the meter refused, with 17, 18 or 19.
+    /// How many reported readings were refused because of the meter, with 17, 18 or 19.
     pub refused: u64,
-    /// The greatest of those.
+    /// The greatest of the refused readings.
     pub highest: Option<Millilitres>,
 }
 

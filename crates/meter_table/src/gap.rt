@@ -8,7 +8,7 @@ use row_tally::{MeterReading, RowPlace};
 use site_base::{Actor, Event, FpNo, Millilitres, NoMemory, NozzleNo, Row, TillNo};
 use stamps::Stamp;
 
-/// A meter that took the place of another.
+/// A meter that replaced another one.
 #[derive(Clone, Copy, Debug, PartialEq, Eq)]
 pub struct Replacement {
     /// Its row.
@@ -21,7 +21,7 @@ pub struct Replacement {
     pub nozzle: NozzleNo,
     /// The old meter's last reading.
     pub old: Millilitres,
-    /// The reading with which the new one begins.
+    /// The reading with which the new meter begins.
     pub new: Millilitres,
 }
 

@@ -32,7 +32,7 @@ impl Model for GapList {
 }
 
 impl GapList {
-    /// No gaps. It takes no memory.
+    /// Returns no gaps. It takes no memory.
     pub fn new(alloc: Global) -> GapList
         ensures { result ≡ no_gaps }
     {
@@ -43,8 +43,8 @@ impl GapList {
         }
     }
 
-    /// A reading was accepted, whose meter read this before: it settles the run of its nozzle, and
-    /// a new meter has its line.
+    /// Notes an accepted reading. `old` is what its meter read before. The reading settles the run
+    /// of its nozzle, if there is one. A replaced meter gets its line.
     pub fn accept(
         &mut self,
         place: &RowPlace,
@@ -59,8 +59,8 @@ impl GapList {
         add_replaced(&mut self.replaced, place, old, row)
     }
 
-    /// A reading was refused, where this was expected. If its meter refused it, it stands in the
-    /// run of its nozzle.
+    /// Notes a refused reading. `expected` is the reading that the site has. If the meter was the
+    /// reason of the refusal, the reading joins the run of its nozzle, or begins one.
     pub fn refuse(
         &mut self,
         place: &RowPlace,
@@ -74,21 +74,21 @@ impl GapList {
         self.unsettled.refuse(place, expected, refusal, told)
     }
 
-    /// The replaced meters, in the order of their rows.
+    /// Returns the replaced meters, in the order of their rows.
     pub fn replaced(&self) -> &[Replacement]
         ensures { result.now ≡ self.now.replaced }
     {
         &self.replaced
     }
 
-    /// The runs that are settled, in the order of the rows that settled them.
+    /// Returns the settled runs, in the order of the rows that settled them.
     pub fn settled(&self) -> &[RefusedRun]
         ensures { result.now ≡ self.now.settled }
     {
         &self.settled
     }
 
-    /// The runs that are open, in the order in which they began.
+    /// Returns the open runs, in the order in which they began.
     pub fn unsettled(&self) -> &[RefusedRun]
         ensures { result.now ≡ self.now.unsettled }
     {

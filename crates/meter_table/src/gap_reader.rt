@@ -13,8 +13,8 @@ use site_core::Site;
 use std::alloc::Global;
 use std::marker::Model;
 
-/// Reads the replaced meters and the refused readings of a day or a history, one row after another.
-/// It holds a site of its own, which takes the rows' events.
+/// Reads the replaced meters and the refused readings of a day or a history, one row after another,
+/// with a site of its own that takes the rows' events.
 #[derive(Drop)]
 pub struct GapReader {
     site: Site,
@@ -45,7 +45,7 @@ impl Model for GapReader {
 }
 
 impl GapReader {
-    /// A reader at the opening of this site, which has read no row.
+    /// Returns a reader at the opening of this site, which has read no row.
     pub fn open(alloc: Global, config: &SiteConfig) -> Result<GapReader, NoMemory>
         ensures { IfOk result (λ m. m
             ≡ record {
@@ -60,8 +60,8 @@ impl GapReader {
         })
     }
 
-    /// Reads the next row, which stands at this place: what it replaces has its line then, and what
-    /// its meter refuses stands in a run.
+    /// Reads the next row, which is at this place. A meter that it replaces gets its line, and a
+    /// reading that is refused because of the meter joins a run.
     pub fn read(&mut self, place: &RowPlace, row: &Row) -> Result<(), NoMemory>
         ensures site { OnOk result
             (self.new.site ≡ site_after self.old.site row.now.actor row.now.event) }
@@ -84,7 +84,7 @@ impl GapReader {
         }
     }
 
-    /// Begins again at the site as it is: no row is read from there on.
+    /// Begins again at the present site, as if no row had been read.
     pub fn begin_here(&mut self, alloc: Global)
         ensures site { self.new.site ≡ self.old.site }
         ensures gaps { self.new.gaps ≡ no_gaps }
@@ -92,7 +92,7 @@ impl GapReader {
         self.gaps = GapList::new(alloc);
     }
 
-    /// The gaps of the rows that were read.
+    /// Returns the gaps of the rows that were read.
     pub fn into_gaps(self) -> GapList
         ensures { result ≡ self.gaps }
     {

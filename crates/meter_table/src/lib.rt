@@ -1,9 +1,9 @@
 //! The counters of a day or a history, nozzle by nozzle. A `MeterReader` reads rows one after
-//! another, and counts for each nozzle what its meter metered, what was sold and drawn of it, and
-//! by how much replaced meters jumped; a `GapReader` notes each replaced meter and each run of
-//! readings that a meter refused. What they have read becomes a table: for people, as
-//! comma-separated values or as JSON; of gaps a report for people has lines, too
-//! (`specs/ReportLines.antt`). The lines add up, and no gap is lost (`specs/Laws.antt`).
+//! another. For each nozzle it counts what its meter metered, what was sold and drawn, and by how
+//! much replaced meters jumped. A `GapReader` notes each replaced meter and each run of refused
+//! readings. Both become a table: for people, as comma-separated values or as JSON. A report for
+//! people has lines on gaps too (`specs/ReportLines.antt`). The lines add up, and no gap is lost
+//! (`specs/Laws.antt`).
 #![tactic(auto)]
 
 mod figure_lines;

@@ -18,8 +18,8 @@ use site_core::Site;
 use std::alloc::Global;
 use std::marker::Model;
 
-/// Counts what the rows of a day or a history do at each nozzle, one row after another. It holds a
-/// site of its own, which takes the rows' events.
+/// Counts what the rows of a day or a history do at each nozzle, one row after another, with a site
+/// of its own that takes the rows' events.
 #[derive(Drop)]
 pub struct MeterReader {
     site: Site,
@@ -51,7 +51,7 @@ impl Model for MeterReader {
 }
 
 impl MeterReader {
-    /// A reader at the opening of this site, which has read no row.
+    /// Returns a reader at the opening of this site, which has read no row.
     pub fn open(alloc: Global, config: &SiteConfig) -> Result<MeterReader, NoMemory>
         ensures { IfOk result (HasRead config.now (opening config.now) []) }
     {
@@ -60,7 +60,7 @@ impl MeterReader {
         Ok(MeterReader { site, figures })
     }
 
-    /// Reads the next row: each nozzle's figures have it then. After `NoMemory` nothing has
+    /// Reads the next row, and adds it to the nozzles' figures. After `NoMemory` nothing has
     /// changed.
     pub fn read(&mut self, row: &Row) -> Result<(), NoMemory>
         ensures read { OnOk result ((c : Configured) (start : SiteState) (rows : List RowFacts)
@@ -72,7 +72,7 @@ impl MeterReader {
         Ok(())
     }
 
-    /// Begins again at the site as it is: no row is read from there on.
+    /// Begins again at the present site, as if no row had been read.
     pub fn begin_here(&mut self)
         ensures { (c : Configured) (start : SiteState) (rows : List RowFacts)
             → HasRead c start rows self.old → HasRead c self.old.site [] self.new }
@@ -82,7 +82,7 @@ impl MeterReader {
         begin_again(&mut self.figures);
     }
 
-    /// The figures of each configured nozzle, in configured order.
+    /// Returns the figures of each configured nozzle, in configured order.
     pub fn into_figures(self) -> Vec<NozzleFigures>
         ensures { result.items ≡ self.figures }
     {

@@ -1,4 +1,4 @@
-//! What a report for people says of the gaps of its rows.
+//! What a report for people says about the gaps of its rows.
 
 ghost use Rattle.std.specs.Prelude.{◌≡◌, ◌++◌, IfOk, OnOk, flat_map, option_map};
 ghost use Rattle.site_base.specs.Members.{member};
@@ -18,8 +18,8 @@ use site_base::{
 };
 use std::alloc::{AllocError, Global};
 
-/// What a report for people says of these gaps: a line for each replaced meter, and one for each
-/// open gap, with an empty line ahead of them. Without any it says nothing.
+/// Returns what a report for people says about these gaps: an empty line, then a line for each
+/// replaced meter and one for each open gap. Without any it is empty.
 pub fn gap_words(alloc: Global, config: &SiteConfig, gaps: &GapList) -> Result<Vec<u8>, NoMemory>
     ensures { IfOk result (λ text. text.items ≡ gap_words config.now gaps.now) }
 {

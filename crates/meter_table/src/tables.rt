@@ -1,4 +1,4 @@
-//! The tables of nozzles and of gaps, as whole texts.
+//! The tables of nozzles and of gaps, as complete texts.
 
 ghost use Rattle.std.specs.Prelude.{◌≡◌, ◌≢◌, ◌++◌, IfOk, OnOk, codes, flat_map, string_bytes};
 ghost use Rattle.meter_table.specs.Tables.{figure_text, figure_titles, figures_text, gap_titles};
@@ -15,7 +15,7 @@ use row_tally::RefusedRun;
 use site_base::{NoMemory, ProductEntry};
 use std::alloc::Global;
 
-/// The table of these nozzles: a line for each, in this order.
+/// Returns the table of these nozzles: a line for each, in this order.
 pub fn figures_table(
     alloc: Global,
     products: &[ProductEntry],
@@ -66,8 +66,8 @@ fn json_table(
     Ok(text)
 }
 
-/// The table of gaps: each replaced meter, each run of refused readings that is settled, and those
-/// that are open.
+/// Returns the table of gaps: each replaced meter, each settled run of refused readings, and each
+/// open run.
 pub fn gaps_table(alloc: Global, gaps: &GapList, form: Form) -> Result<Vec<u8>, NoMemory>
     ensures { form ≢ Form.Text → IfOk result (λ text. text.items ≡ gaps_text form gaps.now) }
 {

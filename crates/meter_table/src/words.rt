@@ -1,4 +1,4 @@
-//! Numbers as the tables tell them.
+//! Numbers as the tables write them.
 
 ghost use Rattle.std.specs.Prelude.{◌≡◌, ◌++◌, IfOk, OnOk, decimal};
 ghost use Rattle.serde_json.specs.View.{view};

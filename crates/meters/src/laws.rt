@@ -1,4 +1,4 @@
-//! Laws of the nozzles' meters. They have no code: each is proved of the definitions that the
+//! Laws of the nozzles' meters. They have no code: each is proved for the definitions that the
 //! contracts of this crate cite.
 
 ghost use Rattle.meters.specs.Laws.{GrowthRaisesOneTotal, ReportsAreMetered, StaysWithinBounds};
@@ -17,8 +17,8 @@ pub fn stays_within_bounds()
 {}
 
 /// A site that opens has metered nothing. An accepted report raises what is metered by its growth,
-/// however the products are weighed; a refused one leaves every meter. A replacement leaves what is
-/// metered as it was.
+/// however the products are weighed. A refused report changes no meter. A replacement leaves what
+/// is metered as it was.
 pub fn reports_are_metered()
     ensures { ReportsAreMetered }
 {}

@@ -58,7 +58,7 @@ impl Model for Meter {
 }
 
 impl Meter {
-    /// The meter of a nozzle when the site opens.
+    /// Returns the meter of a nozzle when the site opens.
     pub fn at_opening(point: FpNo, nozzle: NozzleNo, entry: &NozzleEntry) -> Self
         ensures value { result ≡ opening_nozzle point nozzle entry.now }
         ensures bounds { IsMetered result }
@@ -75,7 +75,7 @@ impl Meter {
         }
     }
 
-    /// The cell of its nozzle among those of all nozzles that a site can have.
+    /// Returns the cell of its nozzle among those of all nozzles that a site can have.
     pub fn cell(&self) -> usize
         ensures place { result ≡ nozzle_cell self.now.point self.now.number }
         ensures within { result < NOZZLE_CELLS }
@@ -85,29 +85,29 @@ impl Meter {
         cell_of(self.point, self.nozzle)
     }
 
-    /// The product that the nozzle delivers.
+    /// Returns the product that the nozzle delivers.
     pub fn product(&self) -> ProductNo
         ensures { result ≡ self.now.product }
     {
         self.product
     }
 
-    /// Its last reading.
+    /// Returns its last reading.
     pub fn last(&self) -> Millilitres
         ensures { result ≡ self.now.last }
     {
         self.last
     }
 
-    /// How often it was replaced.
+    /// Returns how often it was replaced.
     pub fn replacements(&self) -> u8
         ensures { result ≡ self.now.replaced }
     {
         self.replaced
     }
 
-    /// The millilitres that the nozzle has metered since the site opened: those of this meter, and
-    /// those of its earlier meters.
+    /// Returns the millilitres that the nozzle has metered since the site opened, with this meter
+    /// and with its earlier meters.
     pub fn metered_volume(&self) -> u64
         ensures value { result ≡ volume_metered self.now }
         ensures range { result ≤ most_of_a_nozzle }
@@ -115,7 +115,7 @@ impl Meter {
         (self.last.get() - self.began.get()) + self.earlier
     }
 
-    /// How much a report adds to the last reading, or why the report is refused.
+    /// Returns how much a report adds to the last reading, or why the report is refused.
     pub fn check(&self, reading: Millilitres, report: &Report) -> Result<u64, Refusal>
         ensures accepted { OnOk result (report_refusal report.now self.now.last reading ≡ None) }
         ensures growth { IfOk result (λ growth. growth ≡ growth_of self.now.last reading) }
@@ -142,7 +142,7 @@ impl Meter {
         Ok(read - last)
     }
 
-    /// Takes a reading that isn't below the last one, and tells by how much it is above it.
+    /// Takes a reading that isn't below the last one, and returns by how much it is above it.
     pub fn advance(&mut self, reading: Millilitres) -> u64
         requires { self.old.last ≤ reading }
         ensures meter { self.new ≡ read_at reading self.old }
@@ -154,7 +154,7 @@ impl Meter {
         growth
     }
 
-    /// Puts a meter in its place that begins with this reading.
+    /// Replaces the meter by one that begins with this reading.
     pub fn replace(&mut self, reading: Millilitres)
         requires { self.old.replaced < REPLACEMENT_LIMIT }
         ensures meter { self.new ≡ replaced_at reading self.old }

@@ -24,8 +24,8 @@ use site_base::{
 use std::alloc::Global;
 use std::marker::Model;
 
-/// The meters of a site's nozzles, in configured order. What is asked of a nozzle or of a product
-/// costs the same for one point and for all.
+/// The meters of a site's nozzles, in configured order. An operation on a nozzle or a product costs
+/// the same however many points there are.
 #[derive(Drop)]
 pub struct Meters {
     meters: Vec<Meter>,
@@ -48,8 +48,8 @@ impl Model for Meters {
 }
 
 impl Meters {
-    /// The meters of the site's nozzles when it opens: each begins with its opening reading, and
-    /// none was replaced.
+    /// Returns the meters of the site's nozzles when it opens: each begins with its opening
+    /// reading, and none was replaced.
     pub fn try_new(alloc: Global, config: &SiteConfig) -> Result<Self, NoMemory>
         ensures { IfOk result (λ meters. meters ≡ opening_nozzles config.now) }
     {
@@ -72,7 +72,7 @@ impl Meters {
         self.place(p, n).is_some()
     }
 
-    /// The product of nozzle n of point p. None where there is no such nozzle.
+    /// Returns the product of nozzle n of point p; None if there is no such nozzle.
     pub fn product(&self, p: FpNo, n: NozzleNo) -> Option<ProductNo>
         ensures { result ≡ product_of p n self.now }
     {
@@ -85,8 +85,8 @@ impl Meters {
         }
     }
 
-    /// The last reading of nozzle n of point p. None where there is no such nozzle. No last reading
-    /// is below the one that its meter began with.
+    /// Returns the last reading of nozzle n of point p; None if there is no such nozzle. No last
+    /// reading is below the one with which its meter began.
     pub fn last(&self, p: FpNo, n: NozzleNo) -> Option<Millilitres>
         ensures value { result ≡ last_of p n self.now }
         ensures bounds { AreNozzles self.now }
@@ -100,7 +100,8 @@ impl Meters {
         }
     }
 
-    /// How often the meter of nozzle n of point p was replaced. None where there is no such nozzle.
+    /// Returns how often the meter of nozzle n of point p was replaced; None if there is no such
+    /// nozzle.
     pub fn replacements(&self, p: FpNo, n: NozzleNo) -> Option<u8>
         ensures { result ≡ replacements_of p n self.now }
     {
@@ -113,11 +114,11 @@ impl Meters {
         }
     }
 
-    /// How much a report of nozzle n of point p, which is there, adds to the nozzle's last reading,
-    /// in millilitres. A `Still` report that doesn't read just the last reading is refused with
-    /// `MeterGap`, which names the reading that is expected. A `Growing` one is refused with
-    /// `MeterBack`, which names the last reading, where it reads less than that, and with
-    /// `MeterJump` where it reads more than `GROWTH_LIMIT` above it. No meter moves.
+    /// Returns how much a report of nozzle n of point p, which exists, adds to the nozzle's last
+    /// reading, in millilitres. A `Still` report that differs from the last reading is refused with
+    /// `MeterGap`, which names the expected reading. A `Growing` report is refused with
+    /// `MeterBack`, which names the last reading, if it is less than that, and with `MeterJump` if
+    /// it is more than `GROWTH_LIMIT` above it. No meter moves.
     pub fn check(
         &self,
         p: FpNo,
@@ -141,8 +142,8 @@ impl Meters {
         meter.check(reading, &report)
     }
 
-    /// Takes a reading of nozzle n of point p, which is there, as its last one. A `Growing` report
-    /// of it would be accepted. No other meter moves.
+    /// Takes a reading of nozzle n of point p, which exists, as its last one. A `Growing` report of
+    /// it would be accepted. No other meter moves.
     pub fn advance(&mut self, p: FpNo, n: NozzleNo, reading: Millilitres)
         requires there { has_nozzle p n self.old ≡ true }
         requires accepted { report_refusal Growing (reading_of p n self.old) reading ≡ None }
@@ -157,9 +158,9 @@ impl Meters {
         self.totals[product.cell()] += growth;
     }
 
-    /// Nozzle n of point p, which is there, gets another meter, which begins with this reading. Its
-    /// meter was replaced fewer than `REPLACEMENT_LIMIT` times. What the nozzle has metered stays
-    /// as it is, and no other meter moves.
+    /// Replaces the meter of nozzle n of point p, which exists, by one that begins with this
+    /// reading. The meter was replaced fewer than `REPLACEMENT_LIMIT` times. What the nozzle has
+    /// metered stays, and no other meter moves.
     pub fn replace(&mut self, p: FpNo, n: NozzleNo, reading: Millilitres)
         requires there { has_nozzle p n self.old ≡ true }
         requires fewer { times_replaced p n self.old < REPLACEMENT_LIMIT }
@@ -172,9 +173,9 @@ impl Meters {
         meter.replace(reading);
     }
 
-    /// What the nozzles of product q have metered since the site opened, in millilitres: the sum of
-    /// what their meters and their earlier meters have. 0 where no nozzle delivers q. What the
-    /// nozzles of all products have metered is at most what a site can meter.
+    /// Returns what the nozzles of product q have metered since the site opened, in millilitres:
+    /// the sum of what their meters and their earlier meters have; 0 if no nozzle delivers q. What
+    /// the nozzles of all products have metered is at most what a site can meter.
     pub fn product_total(&self, q: ProductNo) -> u64
         ensures total { result ≡ product_total q self.now }
         ensures range { result ≤ most_of_a_site }
@@ -183,8 +184,8 @@ impl Meters {
         self.totals[q.cell()]
     }
 
-    /// The same as `product_total`, summed from the nozzles' own rows: no total that is kept is
-    /// read.
+    /// Returns the same as `product_total`, summed from the nozzles' own rows. No total that is
+    /// kept is read.
     pub fn recount(&self, q: ProductNo) -> u64
         ensures { result ≡ product_total q self.now }
     {

@@ -7,7 +7,7 @@ ghost use Rattle.meters.specs.MeteredVolumes.{product_total};
 use crate::meter::Meter;
 use site_base::ProductNo;
 
-/// The millilitres that the nozzles of product q have metered, summed nozzle by nozzle.
+/// Sums the millilitres that the nozzles of product q have metered, nozzle by nozzle.
 pub fn recount(meters: &[Meter], q: ProductNo) -> u64
     requires { AreNozzles meters.now }
     ensures { result ≡ product_total q meters.now }

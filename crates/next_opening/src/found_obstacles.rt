@@ -1,4 +1,4 @@
-//! All that hinders the end of a book's history.
+//! Everything that prevents a book's history from ending.
 
 ghost use Rattle.std.specs.Prelude.{◌≡◌, ◌++◌, ◌↔◌, [], filter, map, true, IfOk, OnOk};
 ghost use Rattle.std.specs.List.{list_all};
@@ -14,11 +14,11 @@ use site_base::{FpNo, NoMemory, POINT_CELLS, PointState};
 use site_book::{NamedSale, SiteBook, UnpaidSales};
 use std::alloc::Global;
 
-/// What hinders the end of a book's history: each unpaid transaction, and each point that is
-/// released or has a fuelling under way. It is in order of the points' numbers: of each its unpaid
-/// transactions in the order in which they were sold, and then its state. The unpaid transactions
-/// have read the whole book. There is nothing just where all is paid and no point is released or
-/// has a fuelling under way.
+/// Returns what prevents a book's history from ending: each unpaid transaction, and each point that
+/// is released or has a fuelling in progress. They are in the order of the points' numbers: for
+/// each point its unpaid transactions in the order in which they were sold, and then its state.
+/// `unpaid` has to have read the whole book. The list is empty exactly if everything is paid and no
+/// point is released or has a fuelling in progress.
 pub fn obstacles(
     alloc: Global,
     book: &SiteBook,

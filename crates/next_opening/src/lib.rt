@@ -1,5 +1,5 @@
-//! Where the next history begins: the configuration that goes on from a book, and what hinders the
-//! end of a history.
+//! Where the next history begins: the configuration that continues a book, and what prevents a
+//! history from ending.
 #![tactic(auto)]
 
 mod found_obstacles;

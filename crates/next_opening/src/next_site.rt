@@ -1,4 +1,4 @@
-//! The configuration that goes on from a book.
+//! The configuration that continues a book.
 
 ghost use Rattle.std.specs.Prelude.{◌≡◌, ◌≤◌, length, map, IfOk};
 ghost use Rattle.site_base.specs.declared.limits.TheConstants.{NOZZLES};
@@ -15,9 +15,9 @@ use site_base::{
 use site_book::SiteBook;
 use std::alloc::Global;
 
-/// The configuration with which the next history goes on: that of the book, but with today's prices
-/// and with each nozzle's last reading. A site that opens with it has the book's prices and last
-/// readings.
+/// Returns the configuration with which the next history begins: that of the book, but with the
+/// present prices and each nozzle's last reading. A site that opens with it has the book's prices
+/// and last readings.
 pub fn next_config(alloc: Global, book: &SiteBook) -> Result<SiteConfig, NoMemory>
     ensures next { IfOk result (λ c. c ≡ next_opening book.now.config (site_of_book book.now)) }
     ensures goes_on { IfOk result (λ c. GoesOnFrom (site_of_book book.now) (opening c)) }

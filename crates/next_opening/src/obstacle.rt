@@ -1,4 +1,4 @@
-//! What hinders the end of a history.
+//! What prevents a history from ending.
 
 ghost use Rattle.std.specs.Prelude.{Some};
 ghost use Rattle.std.specs.Fmt.{DisplaysOnOk};
@@ -9,8 +9,8 @@ use site_base::{Cents, FpNo, ShiftNo};
 use site_book::NamedSale;
 use std::fmt;
 
-/// What hinders the end of a history. It is printed with its point: `point 3: sale 17 of shift 2 is
-/// unpaid: 12.00`, `point 4 is released`, `point 5: a fuelling is under way`.
+/// What prevents a history from ending. It is printed with its point: `point 3: sale 17 of shift 2
+/// is unpaid: 12.00`, `point 4 is released`, `point 5: a fuelling is under way`.
 #[derive(Clone, Copy, Drop)]
 pub enum Obstacle {
     /// A transaction is payable or locked.

@@ -3,8 +3,8 @@
 ghost use Rattle.nozzle_figures.specs.Laws.{EachNozzleAddsUp, EachReadingIsCounted};
 ghost use Rattle.nozzle_figures.specs.ProductSums.{EachProductAddsUp};
 
-/// Nozzle by nozzle, and over any rows: the counter moved by what was metered and by jumps, and
-/// what was metered was sold, drawn, or is in the fuelling under way.
+/// For each nozzle, and over any rows: the counter moved by what was metered and by jumps, and what
+/// was metered was sold, was drawn, or is in the fuelling in progress.
 pub fn each_nozzle_adds_up()
     ensures { EachNozzleAddsUp }
 {}

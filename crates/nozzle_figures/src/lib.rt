@@ -1,5 +1,5 @@
-//! What was counted at each nozzle: readings, what flowed, what was sold and drawn of it, and what
-//! a replaced meter jumped.
+//! What was counted at each nozzle: its readings, what flowed, what was sold and drawn, and by how
+//! much a replaced meter jumped.
 #![tactic(auto)]
 
 mod laws;

@@ -1,4 +1,4 @@
-//! What is printed of the book of a text, once that is replayed: a report, or a table of counters.
+//! What is printed of the book of a replayed input: a report, or a table of counters.
 
 ghost use Rattle.std.specs.Prelude.{◌≡◌, ◌++◌, IfOk, OnOk};
 ghost use Rattle.written_site.specs.SiteState.{opening};
@@ -36,8 +36,9 @@ pub enum BookText {
     Gaps(Form),
 }
 
-/// Replays this input on this site, and prints this text of its book where the text of the
-/// answers ended.
+/// Replays this input on this site without its answers, and prints this text of its book. The book
+/// is printed too if the replay ends at a fault of the input's text. After any other fault nothing
+/// is printed but the fault.
 pub fn print_of_book<R: Print + Eprint + AllocGlobal, I: Read + Drop>(
     rt: &R,
     mut input: Counted<NamedInput<I>>,

@@ -14,7 +14,8 @@ use site_base::{NoMemory, NumberMeaning};
 use std::io::{BufReader, Read};
 use std::process::ExitCode;
 
-/// Prints what a number means; without one, each message of this input in words.
+/// Prints what the given number means. Without a number, prints each message of this input in
+/// words.
 pub fn run_explain<R: Print + Eprint + AllocGlobal, I: Read + Drop>(
     rt: &R,
     input: I,

@@ -1,4 +1,4 @@
-//! The options that are for the folder of a history alone.
+//! The options that only the folder of a history takes.
 
 ghost use Rattle.std.specs.Prelude.{◌≡◌, IfErr, OnErr, OnOk, false, true};
 ghost use Rattle.std.specs.Process.{exit_status};
@@ -7,7 +7,8 @@ ghost use Rattle.program_io.specs.declared.exit.TheConstants.{COMMAND_LINE};
 use program_io::{COMMAND_LINE, exit_with};
 use std::process::ExitCode;
 
-/// How the program ends where this option is given for what is no history.
+/// If this option is given, prints that it is only for the folder of a history, and returns the
+/// exit status.
 pub fn refuse_option(rt: &impl Eprint, option: &str, is_given: bool) -> Result<(), ExitCode>
     ensures ok { OnOk result (is_given ≡ false) }
     ensures refused { OnErr result (is_given ≡ true) }

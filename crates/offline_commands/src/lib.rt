@@ -1,9 +1,8 @@
 //! The commands that open no site for a day: `check`, `replay`, `report`, `sales`, `meters`,
 //! `explain` and `spell`. They read a site file or standard input, print, and end.
 //!
-//! Each `run_..` takes what the command line says and gives the status that the program exits
-//! with. What a command does stands in `forecourt_engines`, `day_report`, `sales_table` and
-//! `meter_table`.
+//! Each `run_..` takes what the command line says and returns the exit status. What a command does
+//! is in `forecourt_engines`, `day_report`, `sales_table` and `meter_table`.
 #![tactic(auto)]
 
 mod book_text;

@@ -1,6 +1,6 @@
-//! Refuses an input whose comments name another site file than the one that it is read on. A
-//! journal names its own in its first line, a chapter of a history in its second; of several
-//! chapters, one after another, each does.
+//! Refuses an input if a comment in it names another site file than the one that the input is read
+//! on. A journal names its site file in its first line, a chapter of a history in its second. In
+//! several chapters, one after another, each names it.
 
 ghost use Rattle.std.specs.Prelude.{◌≡◌, ◌≢◌, ◌≤◌, ◌+◌, ◌<◌, drop, length, IfSome, None, Some};
 ghost use Rattle.std.specs.Process.{exit_status};
@@ -43,7 +43,7 @@ enum NamedText {
     History,
 }
 
-/// An input that ends, with an error, behind the first comment that names another site.
+/// An input that ends with an error after the first comment that names another site.
 #[derive(Drop)]
 pub struct NamedInput<I> {
     input: I,
@@ -101,8 +101,8 @@ impl<I: Read> Read for NamedInput<I> {
     }
 }
 
-/// The site of the file of this name, and an input for it. Or how the program ends, where the file
-/// can't be read or has a fault.
+/// Reads the site from the file of this name, and makes an input for it. If the file can't be read
+/// or has a fault, prints that and returns the exit status.
 pub fn open_input<R: Files + Eprint + AllocGlobal, I: Read + Drop>(
     rt: &R,
     name: &str,
@@ -118,7 +118,8 @@ pub fn open_input<R: Files + Eprint + AllocGlobal, I: Read + Drop>(
     Ok((config, Counted::new(named)))
 }
 
-/// How the program ends whose input ended so: where that has named another site, it says that.
+/// Prints why a replay of this input ended, and returns the exit status. If the input has named
+/// another site, prints that instead.
 pub fn exit_named<I: Read>(
     rt: &impl Eprint,
     input: &Counted<NamedInput<I>>,

@@ -1,4 +1,4 @@
-//! `forecourt replay FILE`, and the program without words.
+//! `forecourt replay FILE`, and the program without arguments.
 
 ghost use Rattle.std.specs.Prelude.{◌≡◌, IfErr, None, OnOk, false};
 ghost use Rattle.std.specs.Process.{exit_status};

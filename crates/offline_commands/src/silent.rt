@@ -12,7 +12,7 @@ use std::alloc::Global;
 use std::io;
 use std::io::Read;
 
-/// Replays this input on this site without its answers.
+/// Replays this input on this site, and doesn't print its answers.
 pub fn replay_silently<I: Read + Drop>(
     alloc: Global,
     input: &mut Counted<I>,
@@ -25,7 +25,8 @@ pub fn replay_silently<I: Read + Drop>(
     replay(alloc, config, input, &mut sink, TURNS, false)
 }
 
-/// Is this the end of the input, or a fault of its text? After another one nothing is reported.
+/// Did the replay reach the end of the input, or a fault of its text? After any other fault nothing
+/// is reported.
 pub fn ends_its_text(fault: &Option<ReplayFault>) -> bool
     ensures { result ≡ not (is_early fault.now) }
 {

@@ -1,4 +1,4 @@
-//! `forecourt spell`: a day in words, spelled as the lines of hexadecimal that the other commands
+//! `forecourt spell`: turns a day in words into the lines of hexadecimal that the other commands
 //! read.
 
 use devices::{Counted, ReadFault, write_whole};
@@ -13,8 +13,8 @@ use std::process::ExitCode;
 /// This many octets are printed at once.
 const TEXT_OCTETS: usize = 65_536;
 
-/// Spells each line of this input, and ends with the first that asks for nothing; what was spelled
-/// before it is printed.
+/// Turns each line of this input into a message. At the first line that it can't parse it stops
+/// with status 1, and prints the messages of earlier lines.
 pub fn run_spell<R: Print + Eprint + AllocGlobal, I: Read + Drop>(rt: &R, input: I) -> ExitCode {
     let alloc = rt.alloc();
     let mut reader = match BufReader::new(alloc, input) {

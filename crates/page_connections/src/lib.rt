@@ -1,7 +1,7 @@
-//! The page's listener and its connections, each of which has its turns.
+//! The page's listener and its connections, which are served in turns.
 //!
-//! A turn answers what a peer asks by the page that it is lent, and by nothing else; the page is
-//! that of the book (`specs/Pages.antt`). They are lent the book, and can't change it.
+//! A turn answers a request only by the page that it is lent, which is that of the book
+//! (`specs/Pages.antt`). The connections are lent the book, and can't change it.
 #![tactic(auto)]
 
 mod page_link;

@@ -41,7 +41,7 @@ pub struct Pages {
 }
 
 impl Pages {
-    /// No connections yet. Their keys are those from this one on.
+    /// Returns a page without connections. Their keys begin with this one.
     pub fn new(
         alloc: Global,
         keys: RandomState,
@@ -78,12 +78,12 @@ impl Pages {
         self.has_callers || self.links.iter().any(|link| link.is_some())
     }
 
-    /// Connections may wait to be accepted.
+    /// Notes that connections may wait to be accepted.
     pub fn note_callers(&mut self) {
         self.has_callers = true;
     }
 
-    /// The connection of this key is ready.
+    /// Notes that the connection of this key is ready.
     pub fn make_due(&mut self, key: usize) {
         if let Some(place) = key.checked_sub(self.first_key) {
             if let Some(Some(link)) = self.links.get_mut(place) {
@@ -93,7 +93,7 @@ impl Pages {
         }
     }
 
-    /// Those that wait are accepted. Do connections then have their turns in this round?
+    /// Accepts the connections that wait. Returns whether connections have turns in this round.
     pub fn accept_waiting(&mut self, registry: &Registry, now: Instant) -> bool {
         if self.has_callers {
             self.accept_all(registry, now);
@@ -101,7 +101,7 @@ impl Pages {
         self.time_left(now) == Some(Duration::from_secs(0))
     }
 
-    /// How long it is until connections have their turns, if one is ready.
+    /// Returns how long it is until connections have turns, if one is ready.
     pub fn time_left(&self, now: Instant) -> Option<Duration> {
         if !self.is_due {
             return None;
@@ -113,11 +113,11 @@ impl Pages {
         }
     }
 
-    /// The connections that are ready have their turns, up to 8 of them, with the page of the book,
-    /// of which these are the unpaid transactions. `counts` is what the station counts, and
-    /// `sessions` are those of its peers; `at` is what time it is; of its history, `opened` is the
-    /// time of the open shift's first row, and `seal` the last seal; `tally` is that of its rows,
-    /// if there is one, and `name` the site's, if it has one.
+    /// Gives a turn to up to 8 of the connections that are ready, with the page of the book.
+    /// `unpaid` are the unpaid transactions of the book, `counts` is what the station counts,
+    /// `sessions` are the sessions of its peers, `at` is the current time. Of the history, `opened`
+    /// is the time of the open shift's first row, `seal` the last seal, `tally` the tally of its
+    /// rows. `name` is the name of the site, if it has one.
     pub fn answer_due(
         &mut self,
         registry: &Registry,
@@ -185,7 +185,7 @@ impl Pages {
         }
     }
 
-    /// Where memory is wanting, whoever asks is sent away.
+    /// Closes the connections that are ready, because memory has run out.
     pub fn close_due(&mut self) {
         self.is_due = false;
         for slot in &mut self.links {
@@ -202,7 +202,7 @@ impl Pages {
         }
     }
 
-    /// Closes the connections whose peers were waited for too long.
+    /// Closes the connections whose peers have taken too long.
     pub fn close_late(&mut self, now: Instant) {
         for slot in &mut self.links {
             if slot.as_ref().is_some_and(|link| link.is_late(now)) {

@@ -1,4 +1,4 @@
-//! Octets that were read from a connection, and of which some aren't heard yet.
+//! Octets that were read from a connection, some of which aren't heard yet.
 
 ghost use Rattle.std.specs.Prelude.{◌≤◌, ◌<◌, length};
 

@@ -1,4 +1,4 @@
-//! A piece is read, and heard.
+//! Reads a piece, and hears it.
 
 ghost use Rattle.std.specs.Prelude.{◌≡◌, ◌≤◌, [], drop, length};
 ghost use Rattle.page_connections.specs.Pieces.{ReadsPiece, unheard_of};

@@ -1,17 +1,18 @@
 //! The sizes of the page's connections, each written once.
 
-/// So many connections of the page there are at once, at most.
+/// The most connections of the page at once.
 pub const PAGE_CONNECTIONS: usize = 64;
 
-/// The connections of the page have their turns so often, at most: a text of the site is made for
-/// each request, which the tills would wait for.
+/// The least milliseconds between two turns of the page's connections. Each request makes a text of
+/// the site, for which the tills wait.
 pub const TURN_MILLISECONDS: u64 = 100;
 
-/// So many of them have a turn at once, at most; the others have theirs the next time.
+/// The most connections with a turn at once. The others have theirs the next time.
 pub const LINKS_A_TURN: usize = 8;
 
-/// A peer of the page has so many seconds, behind an answer, to ask anew and take the next one.
+/// The seconds that a peer of the page has after an answer, to make the next request and take its
+/// answer.
 pub const PAGE_SECONDS: u64 = 10;
 
-/// Of what a peer of the page sends, and nobody hears, so many octets are read at once, at most.
+/// The most octets that one read takes of what a peer of the page sends and nobody hears.
 pub const IGNORED_OCTETS: usize = 1_024;

@@ -7,9 +7,9 @@ ghost use Rattle.past_rows.specs.FiguresBetween.{products_between, till_between,
 use site_base::{Listing, NoMemory, ProductView, TillNo, Totals};
 use std::alloc::Global;
 
-/// The figures of the rows between two moments of a history, of which these are the totals: how
-/// many rows there are, what they metered, cleared and adjusted of each product, and what each till
-/// cleared. Running, payable and locked are what stands at the later moment.
+/// Returns the figures of the rows between two moments of a history, whose totals are `before` and
+/// `after`: the number of these rows, what they metered, cleared and adjusted of each product, and
+/// what each till cleared. Running, payable and locked are those of the later moment.
 pub fn figures_between(alloc: Global, before: &Totals, after: &Totals) -> Result<Totals, NoMemory>
     ensures { IfOk result (λ totals. totals ≡ figures_between before.now after.now) }
 {

@@ -1,5 +1,5 @@
-//! What is told of the rows of a history, row after row: their replies, as lines of hexadecimal,
-//! and their words, with their times or without; the figures of some of its shifts.
+//! What is printed of the rows of a history, row after row: their replies as lines of hexadecimal,
+//! and their words, with or without their times; and the figures of some of its shifts.
 #![tactic(auto)]
 
 mod figures;

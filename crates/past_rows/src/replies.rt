@@ -21,7 +21,7 @@ pub struct ReplyLines {
 }
 
 impl ReplyLines {
-    /// A writer, which tells changes too or not. It takes no memory.
+    /// Returns a writer; with `changes` it writes changes too. It takes no memory.
     pub fn new(alloc: Global, changes: bool) -> ReplyLines
         ensures { result.changes ≡ changes }
     {
@@ -32,8 +32,8 @@ impl ReplyLines {
         }
     }
 
-    /// Appends the reply to a row's request with token 0, and, where changes are told, the change
-    /// that the row stands for: what a replay answers the line that a chapter has of it.
+    /// Appends the reply to a row's request with token 0, and, with `changes`, the change of the
+    /// row. This is what a replay answers to the row's line in a chapter.
     pub fn put(&mut self, row: &Row, text: &mut Vec<u8>) -> Result<(), NoMemory>
         requires { IsSent row.now }
         ensures lines { OnOk result (text.new.items

@@ -1,4 +1,4 @@
-//! The figures of some shifts of a history, taken while its book goes on.
+//! The figures of some shifts of a history, taken while its rows are read.
 
 ghost use Rattle.std.specs.Prelude.{◌≡◌, ◌+◌, ◌∷◌, ◌++◌, [], IfOk, IfNone, IfSome, None, OnOk};
 ghost use Rattle.std.specs.Prelude.{length};
@@ -14,8 +14,8 @@ use site_book::SiteBook;
 use std::alloc::Global;
 use std::marker::Model;
 
-/// The figures of some shifts of a history. They are taken while its rows are read: before the
-/// first row, and after each, it looks at the book.
+/// The figures of some shifts of a history. They are taken while its rows are read: it looks at the
+/// book before the first row, and after each row.
 #[derive(Drop)]
 pub struct ShiftFigures {
     shifts: ShiftRange,
@@ -34,7 +34,7 @@ impl Model for ShiftFigures {
 }
 
 impl ShiftFigures {
-    /// Of these shifts, before it has looked at a book.
+    /// Returns the figures of these shifts before it has looked at a book.
     pub fn new(shifts: ShiftRange) -> ShiftFigures
         ensures { result ≡ record { shifts = shifts; before = None; after = None } }
     {
@@ -45,7 +45,7 @@ impl ShiftFigures {
         }
     }
 
-    /// Looks at the book as it stands, and takes its totals if one of the two moments has come.
+    /// Looks at the present book, and takes its totals if one of the two moments has come.
     pub fn take_moment(&mut self, alloc: Global, book: &SiteBook) -> Result<(), NoMemory>
         ensures first { OnOk result (book.now.rows ≡ [] → self.old.before ≡ None
             → self.old.after ≡ None → HasTaken self.new book.now) }
@@ -57,8 +57,8 @@ impl ShiftFigures {
         take_totals(alloc, book, self.shifts.last.get() + 1, &mut self.after)
     }
 
-    /// The figures of the shifts, of a history that ends with this book; if the last shift is open,
-    /// they go up to its end. None where the first one isn't there yet.
+    /// Returns the figures of the shifts, for a history that ends with this book. If the last shift
+    /// is open, they go up to the history's end. None if the first shift hasn't begun.
     pub fn totals(&self, alloc: Global, book: &SiteBook) -> Result<Option<Totals>, NoMemory>
         ensures figures { IfOk result (λ found. HasTaken self.now book.now
             → IfSome found (AreOfShifts self.now.shifts book.now)) }

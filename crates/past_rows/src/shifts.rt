@@ -14,7 +14,8 @@ pub struct ShiftRange {
 }
 
 impl ShiftRange {
-    /// The shifts that this word says: one, `3`, or several, `3..5`. None where it says no shifts.
+    /// Returns the shifts in this word: one, `3`, or several, `3..5`. None if the word has no
+    /// shifts.
     pub fn parse(word: &str) -> Option<ShiftRange>
         ensures order { IfSome result (λ shifts. shifts.first ≤ shifts.last) }
     {

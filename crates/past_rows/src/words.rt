@@ -19,8 +19,8 @@ pub fn put_words(alloc: Global, row: &Row, text: &mut Vec<u8>) -> Result<(), NoM
     Ok(())
 }
 
-/// Appends a row in words, as a line, with its time ahead of it. After `NoMemory` there may be a
-/// part of it.
+/// Appends a row in words, as a line, with its time at the front. After `NoMemory` a part of the
+/// line may have been appended.
 pub fn put_timed_words(
     alloc: Global,
     time: Option<Stamp>,

@@ -1,5 +1,5 @@
-//! One call of a connection: octets that a peer sent are heard, octets that it may be told are
-//! sent.
+//! One call of a connection: it hears octets that a peer sent, or sends octets that the peer may
+//! have.
 
 ghost use Rattle.std.specs.Prelude.{◌≡◌, ◌<◌, ◌≤◌, IfOk, OnErr, length, true};
 ghost use Rattle.station.specs.declared.sizes.TheConstants.{HEARD_OCTETS};
@@ -16,8 +16,8 @@ use connection_calls::Call;
 use journal::{Disk, DiskFault, StoredStation};
 use std::io::{Read, Write};
 
-/// Reads once from the connection of a peer that is read from, and has the station hear what came:
-/// octets, or that no more come, or can come. Where nothing came, the station stays as it is.
+/// Reads once from the connection of a peer that is read from. The station hears what came: octets,
+/// or that no more come, or that no more can come. If nothing came, the station stays as it is.
 pub fn read_once<R: Read, D: Disk>(
     reader: &mut R,
     stored: &mut StoredStation<D>,
@@ -89,8 +89,8 @@ pub(crate) fn read_ignored<R: Read>(reader: &mut R, piece: &mut [u8], _over: Ses
     }
 }
 
-/// Writes once to the connection of a peer what it may be told: what it is owed, while each row is
-/// stored. What was taken is no longer owed; where nothing was, the station stays as it is.
+/// Writes a peer's pending output to its connection, once, if each row is stored. What the
+/// connection took is no longer pending. If it took nothing, the station stays as it is.
 pub fn write_once<W: Write, D: Disk>(
     writer: &mut W,
     stored: &mut StoredStation<D>,

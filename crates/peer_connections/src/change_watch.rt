@@ -1,4 +1,4 @@
-//! Rows that others are told of: dispensers, and the feed's peers.
+//! Rows of which others are sent something: dispensers, and the feed's peers.
 
 ghost use Rattle.std.specs.Prelude.{◌≡◌, ◌≤◌, ◌||◌, IfSome, OnOk, false, length, slice_get};
 ghost use Rattle.std.specs.Prelude.{None, Some, option_copied, true};
@@ -17,9 +17,8 @@ use site_base::{Event, FpNo, NoMemory, PointSet, Row};
 use site_book::{SiteBook, is_changing};
 use stamps::Stamp;
 
-/// Watches a book for rows that a dispenser may be told of, and for those that the feed's peers are
-/// told. It has to look at them before the book forgets them; the feed reads them once they are
-/// stored.
+/// Watches a book for rows of which a dispenser may get a notice, and for rows that the feed sends.
+/// It has to look at rows before the book forgets them. The feed reads rows once they are stored.
 #[derive(Drop)]
 pub struct ChangeWatch {
     /// So many rows were looked at.
@@ -39,7 +38,7 @@ pub struct ChangeWatch {
 }
 
 impl ChangeWatch {
-    /// Watches the rows behind those that the book has; for releases too, if that is wanted.
+    /// Watches the rows after those that the book has; for releases too, if `watches_releases`.
     pub fn new(book: &SiteBook, watches_releases: bool) -> ChangeWatch
         ensures seen { HasSeen result.rows_seen book.now }
         ensures fed { HasSeen result.rows_fed book.now }
@@ -58,7 +57,7 @@ impl ChangeWatch {
         }
     }
 
-    /// There is a feed: its peers are told these rows, and those that are stored from now on.
+    /// Begins a feed. Its peers are sent these rows, and those that are stored from now on.
     pub fn begin_feed(&mut self, fed: FedRows)
         ensures fed { self.new.fed ≡ Some fed }
         ensures tally { self.new.tally ≡ self.old.tally }
@@ -69,14 +68,14 @@ impl ChangeWatch {
         self.fed = Some(fed);
     }
 
-    /// What the feed's peers are told, if there is a feed.
+    /// Returns the rows that the feed's peers are sent, if there is a feed.
     pub fn fed(&self) -> Option<&FedRows>
         ensures { option_copied result ≡ self.now.fed }
     {
         self.fed.as_ref()
     }
 
-    /// There is a tally: of these rows, and of those that are stored from now on.
+    /// Begins a tally of these rows, and of those that are stored from now on.
     pub fn begin_tally(&mut self, tally: RowTally)
         ensures tally { self.new.tally ≡ Some tally }
         ensures fed { self.new.fed ≡ self.old.fed }
@@ -87,16 +86,16 @@ impl ChangeWatch {
         self.tally = Some(tally);
     }
 
-    /// The tally of the rows that are stored, if there is one.
+    /// Returns the tally of the stored rows, if there is one.
     pub fn tally(&self) -> Option<&RowTally>
         ensures { option_copied result ≡ self.now.tally }
     {
         self.tally.as_ref()
     }
 
-    /// Each row is stored, and none that wasn't yet was forgotten: the feed and the tally, if there
-    /// are any, read those, with the last time that the history tells. Where memory is wanting they
-    /// end.
+    /// Lets the feed and the tally, if there are any, read the newly stored rows, with the last
+    /// time of the history. Each row has to be stored, and none may be forgotten before it is read.
+    /// If memory runs out, the feed and the tally end.
     pub fn read_stored<D: Disk>(&mut self, stored: &StoredStation<D>)
         requires stored { is_all_stored stored.now ≡ true }
         requires fed { HasSeen self.old.rows_fed stored.now.station.book }
@@ -121,8 +120,8 @@ impl ChangeWatch {
         }
     }
 
-    /// The history's next chapter begins behind the rows that were read. Where memory is wanting
-    /// the feed ends.
+    /// Notes that the history's next chapter begins after the rows that were read. If memory runs
+    /// out, the feed ends.
     pub fn begin_chapter(&mut self)
         ensures fed { BeginsChapter self.old.fed self.new.fed }
         ensures tally { self.new.tally ≡ self.old.tally }
@@ -138,8 +137,8 @@ impl ChangeWatch {
         }
     }
 
-    /// Looks at the rows that are new, none of which is forgotten. One that a dispenser is told of
-    /// is noted.
+    /// Looks at the new rows, none of which is forgotten yet. Notes whether a dispenser gets a
+    /// notice of one.
     pub fn look(&mut self, book: &SiteBook)
         requires { HasSeen self.old.rows_seen book.now }
         ensures noted { HasChange self.old book.now → self.new.has_changes ≡ true }
@@ -189,7 +188,7 @@ impl ChangeWatch {
         }
     }
 
-    /// The points that were released since this was asked last.
+    /// Returns the points that were released since the last call.
     pub fn take_released(&mut self) -> PointSet
         ensures changes { self.new.has_changes ≡ self.old.has_changes }
         ensures seen { self.new.rows_seen ≡ self.old.rows_seen }
@@ -202,7 +201,7 @@ impl ChangeWatch {
         released
     }
 
-    /// Was there such a row, since this was asked last?
+    /// Was there a row of which a dispenser gets a notice, since the last call?
     pub fn take(&mut self) -> bool
         ensures had { result ≡ self.old.has_changes }
         ensures none { self.new.has_changes ≡ false }

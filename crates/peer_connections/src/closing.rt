@@ -1,4 +1,4 @@
-//! Connections that close, since their sessions have ended.
+//! Connections that close because their sessions have ended.
 
 ghost use Rattle.std.specs.Prelude.{◌≡◌, [], None, Some, false, get_or, true};
 ghost use Rattle.station.specs.Moves.{without_peer};

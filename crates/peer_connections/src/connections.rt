@@ -1,4 +1,4 @@
-//! The connections of all peers, and the station that they speak with.
+//! The connections of all peers, and the station with which they speak.
 
 ghost use Rattle.std.specs.Prelude.{◌≡◌, ℕ, false, length, IfOk, IfSome, OnErr, OnOk, Some};
 ghost use Rattle.std.specs.Prelude.{is_some, option_copied, true};
@@ -29,7 +29,8 @@ use std::alloc::Global;
 use std::time::Instant;
 
 /// The connections by their peers' keys, over sockets of this type, and the station with its
-/// journal. Each connection is one of a peer that is there, and each peer that is there has one.
+/// journal. Each connection has a peer in the station, and each peer in the station has a
+/// connection.
 #[derive(Drop)]
 pub struct Connections<D: Disk, S: PeerSocket> {
     pub(crate) stored: StoredStation<D>,
@@ -65,8 +66,8 @@ pub struct Connections<D: Disk, S: PeerSocket> {
 }
 
 impl<D: Disk, S: PeerSocket> Connections<D, S> {
-    /// No connections yet to this station, which has no peers. A session of it makes so many rows a
-    /// second at most; with 0 as many as it likes.
+    /// Returns no connections to this station, which has no peers. A session may make at most
+    /// `rows_a_second` rows a second; 0 means any number.
     #[tactic(auto, using(crate::proofs::Pairing::paired_open))]
     pub fn new(
         alloc: Global,
@@ -97,11 +98,10 @@ impl<D: Disk, S: PeerSocket> Connections<D, S> {
         })
     }
 
-    /// Closes the connections that are left, and lets the station go.
+    /// Closes the connections that are left, and drops the station.
     pub fn close(self) {}
 
-    /// The book of the station, where each of its rows is stored: of another nobody is shown
-    /// anything.
+    /// Returns the station's book if each of its rows is stored. Otherwise nobody may see the book.
     pub fn stored_book(&self) -> Option<&SiteBook>
         ensures there { is_some result ≡ is_all_stored self.now.stored }
         ensures book { IfSome result (λ book. book.now ≡ self.now.stored.station.book) }
@@ -113,8 +113,8 @@ impl<D: Disk, S: PeerSocket> Connections<D, S> {
         }
     }
 
-    /// There is a feed: its peers are told these rows, those of the station's history so far, and
-    /// each that is stored from now on.
+    /// Begins a feed. Its peers are sent these rows, those of the station's history so far, and
+    /// each row that is stored from now on.
     #[tactic(auto, using(crate::proofs::Pairing::paired))]
     pub fn begin_feed(&mut self, fed: FedRows)
         ensures fed { self.new.changes.fed ≡ Some fed }
@@ -126,14 +126,14 @@ impl<D: Disk, S: PeerSocket> Connections<D, S> {
         self.changes.begin_feed(fed);
     }
 
-    /// What the feed's peers are told, if there is a feed.
+    /// Returns the rows that the feed's peers are sent, if there is a feed.
     pub fn fed_rows(&self) -> Option<&FedRows>
         ensures { option_copied result ≡ self.now.changes.fed }
     {
         self.changes.fed()
     }
 
-    /// There is a tally: of these rows, those of the station's history so far, and of each that is
+    /// Begins a tally of these rows, those of the station's history so far, and of each row that is
     /// stored from now on.
     #[tactic(auto, using(crate::proofs::Pairing::paired))]
     pub fn begin_tally(&mut self, tally: RowTally)
@@ -146,7 +146,7 @@ impl<D: Disk, S: PeerSocket> Connections<D, S> {
         self.changes.begin_tally(tally);
     }
 
-    /// The tally of the rows that are stored, if there is one.
+    /// Returns the tally of the stored rows, if there is one.
     pub fn tally(&self) -> Option<&RowTally>
         ensures { option_copied result ≡ self.now.changes.tally }
     {
@@ -167,26 +167,26 @@ impl<D: Disk, S: PeerSocket> Connections<D, S> {
         self.stored.read_unpaid()
     }
 
-    /// The transactions that were unpaid when they were looked up last.
+    /// Returns the transactions that were unpaid at the last `read_unpaid`.
     pub fn unpaid(&self) -> &[NamedSale]
         ensures { result.now ≡ self.now.stored.unpaid.sales }
     {
         self.stored.unpaid()
     }
 
-    /// How many connections there are.
+    /// Returns the number of connections.
     pub fn count(&self) -> usize {
         self.links.iter().filter(|link| link.is_some()).count()
     }
 
-    /// The time of the open shift's first row, as `StoredStation::open_since` says.
+    /// Returns the time of the open shift's first row, as `StoredStation::open_since` says.
     pub fn open_since(&self) -> Option<Stamp>
         ensures { result ≡ since_of self.now.stored.journal }
     {
         self.stored.open_since()
     }
 
-    /// The last seal of the history, as `StoredStation::last_seal` says.
+    /// Returns the last seal of the history, as `StoredStation::last_seal` says.
     pub fn last_seal(&self) -> Option<&str>
         ensures seal { IfSome result (λ seal. IfSome self.now.stored.journal
             (λ j. seal.now ≡ j.end.seal)) }
@@ -195,12 +195,14 @@ impl<D: Disk, S: PeerSocket> Connections<D, S> {
         self.stored.last_seal()
     }
 
-    /// When the round began that ended with the last seal, as `StoredStation::sealed_at` says.
+    /// Returns when the round began that ended with the last seal, as `StoredStation::sealed_at`
+    /// says.
     pub fn sealed_at(&self) -> Option<Instant> {
         self.stored.sealed_at()
     }
 
-    /// How many chapters of the history are closed, as `StoredStation::closed_chapters` says.
+    /// Returns the number of closed chapters of the history, as `StoredStation::closed_chapters`
+    /// says.
     pub fn closed_chapters(&self) -> Option<u64>
         ensures count { IfSome result (λ count. IfSome self.now.stored.journal
             (λ j. OfFile (λ f. count ≡ length f.closed) j.file)) }
@@ -209,7 +211,7 @@ impl<D: Disk, S: PeerSocket> Connections<D, S> {
         self.stored.closed_chapters()
     }
 
-    /// Stores each row that isn't stored yet: its peers may be told then.
+    /// Stores each row that isn't stored yet. Then pending output may be sent.
     #[tactic(auto, using(crate::proofs::Reaching::moved, crate::proofs::Pairing::paired, crate::proofs::Seeing::kept))]
     pub fn store(&mut self) -> Result<(), DiskFault>
         ensures journal { JournalGoesOn self.old.stored.journal self.new.stored.journal }
@@ -275,8 +277,8 @@ impl<D: Disk, S: PeerSocket> Connections<D, S> {
         Ok(())
     }
 
-    /// A round begins at this time, if it is known. Once it is said that the clock went back: then
-    /// the last time stands for those before it.
+    /// Begins a round at this time, if it is known. If the clock has gone back, rows get the
+    /// history's last time until the clock is ahead of it again. That is reported once.
     #[tactic(auto, using(crate::proofs::Reaching::moved, crate::proofs::Pairing::paired))]
     pub fn begin_round<E: Eprint>(&mut self, rt: &E, clock: Option<Stamp>, now: Instant)
         ensures journal { JournalGoesOn self.old.stored.journal self.new.stored.journal }
@@ -308,8 +310,8 @@ impl<D: Disk, S: PeerSocket> Connections<D, S> {
         self.round_at = Some(now);
     }
 
-    /// May there be a peer that is left if it takes too long: one that has brought no message, that
-    /// is read from no more since it takes nothing, or whose session has ended?
+    /// May there be a peer that is dropped if it takes too long? It has brought no message, is no
+    /// longer read because it takes nothing, or has a session that has ended.
     pub fn may_wait(&self) -> bool {
         self.may_wait
     }

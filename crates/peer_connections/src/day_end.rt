@@ -16,9 +16,9 @@ use station::PEERS;
 use std::time::Instant;
 
 impl<D: Disk, S: PeerSocket> Connections<D, S> {
-    /// The day ends: each session ends, and what it is owed is sent as far as its connection takes
-    /// it, where each row is stored. Then each connection is closed: nobody is left. The history's
-    /// chapter ends, if it is over, and its last row is sealed.
+    /// Ends the day. Each session ends, and its pending output is sent as far as its connection
+    /// takes it, if each row is stored. Then each connection is closed, and no peer is left. The
+    /// history's chapter ends if it is over, and the last row is sealed.
     #[tactic(auto, using(crate::proofs::Reaching::ended, crate::proofs::Pairing::paired))]
     pub fn end_all<E: Eprint>(&mut self, rt: &E, now: Instant) -> Result<(), DiskFault>
         ensures moves { ReachesBy IsEnding self.old.stored self.new.stored }

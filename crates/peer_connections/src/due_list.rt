@@ -1,4 +1,4 @@
-//! The peers that are sent what they are owed at the end of a round.
+//! The peers whose pending output is sent at the end of a round.
 
 ghost use Rattle.std.specs.Prelude.{◌≡◌, IfOk, List, [], length, slice_get};
 ghost use Rattle.peer_connections.specs.Due.{with_due};

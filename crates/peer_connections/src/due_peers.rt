@@ -1,4 +1,4 @@
-//! The peers that are sent what they are owed at the end of a round.
+//! The peers whose pending output is sent at the end of a round.
 
 ghost use Rattle.std.specs.Prelude.{◌≡◌, ◌≢◌, ◌<◌, ◌⊎◌, [], false, true};
 ghost use Rattle.station.specs.declared.sizes.TheConstants.{PEERS};
@@ -13,7 +13,7 @@ use journal::Disk;
 use station::PEERS;
 
 impl<D: Disk, S: PeerSocket> Connections<D, S> {
-    /// A peer is sent what it is owed at the end of this round.
+    /// Makes a peer due: its pending output is sent at the end of this round.
     pub fn make_due(&mut self, key: usize)
         ensures stored { self.new.stored ≡ self.old.stored }
         ensures links { self.new.links ≡ self.old.links }
@@ -23,8 +23,8 @@ impl<D: Disk, S: PeerSocket> Connections<D, S> {
         self.due.add(key);
     }
 
-    /// Where a dispenser is told of a row of this round, peers that are owed octets are sent them
-    /// at its end, but for those whose connections take none for now. Whoever spoke is sent them
+    /// If a dispenser gets a notice of a row of this round, makes each peer with pending output
+    /// due, except those whose connections take none for now. Peers that sent something are due
     /// anyway.
     pub fn make_owed_due(&mut self)
         ensures stored { self.new.stored ≡ self.old.stored }
@@ -93,9 +93,9 @@ impl<D: Disk, S: PeerSocket> Connections<D, S> {
         }
     }
 
-    /// Peers whose connections took no more are sent what they are owed at the end of this round,
-    /// too: the system says only after long that a connection takes octets again. So a peer that
-    /// takes some isn't left as one that takes nothing.
+    /// Makes peers due too whose connections took no more. The system reports only after a long
+    /// time that a connection takes octets again. So a peer that takes some isn't dropped as one
+    /// that takes nothing.
     #[tactic(auto, using(crate::proofs::Dues::due))]
     pub fn make_full_due(&mut self)
         ensures stored { self.new.stored ≡ self.old.stored }

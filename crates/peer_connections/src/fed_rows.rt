@@ -1,4 +1,4 @@
-//! The rows that the feed's peers are told.
+//! The rows that the feed's peers are sent.
 
 ghost use Rattle.std.specs.Prelude.{◌≡◌, ◌++◌, ◌∷◌, [], OnOk};
 ghost use Rattle.kept_history.specs.KeptRows.{kept_rows};
@@ -18,7 +18,7 @@ pub struct FedRows {
 }
 
 impl FedRows {
-    /// These last rows, of chapters that begin so.
+    /// Returns these last rows, with these beginnings of chapters.
     pub fn new(rows: LastRows, starts: ChapterStarts) -> FedRows
         ensures rows { result.rows ≡ rows }
         ensures starts { result.starts ≡ starts }
@@ -26,14 +26,14 @@ impl FedRows {
         FedRows { rows, starts }
     }
 
-    /// The last rows.
+    /// Returns the last rows.
     pub fn rows(&self) -> &LastRows
         ensures { result.now ≡ self.now.rows }
     {
         &self.rows
     }
 
-    /// Where chapters begin.
+    /// Returns where chapters begin.
     pub fn starts(&self) -> &ChapterStarts
         ensures { result.now ≡ self.now.starts }
     {

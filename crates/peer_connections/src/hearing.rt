@@ -1,4 +1,4 @@
-//! What peers send: their connections are read, and the station hears it.
+//! What peers send: their connections are read, and the station hears what they sent.
 
 ghost use Rattle.std.specs.Prelude.{◌≡◌, true};
 ghost use Rattle.peer_connections.specs.Allowed.{IsHearing, lasts_at};
@@ -13,9 +13,9 @@ use journal::{Disk, DiskFault};
 use std::time::Instant;
 
 impl<D: Disk, S: PeerSocket> Connections<D, S> {
-    /// A peer has sent something, or hung up. With `to_wait` it is read until its connection waits,
-    /// as `Link::hear` says. Where the station's book can't be given room for what it sent, it
-    /// isn't read from.
+    /// Reads from a peer that has sent something, or hung up. With `to_wait` it reads until the
+    /// connection waits, as `Link::hear` says. If the station's book can't get room for a read,
+    /// nothing more is read, and the error is returned.
     #[tactic(auto, using(crate::proofs::Reaching::moved, crate::proofs::Known::heard, crate::proofs::Seeing::kept))]
     pub fn hear(&mut self, key: usize, to_wait: bool, now: Instant) -> Result<(), DiskFault>
         ensures moves { ReachesBy (IsHearing key) self.old.stored self.new.stored }
@@ -95,7 +95,7 @@ impl<D: Disk, S: PeerSocket> Connections<D, S> {
         }
     }
 
-    /// Did reading from a peer stop before it was known to have no more?
+    /// Did reading from a peer stop before it was known that the peer has no more?
     pub fn is_unread(&self, key: usize) -> bool {
         match self.links.get(key) {
             Some(Some(link)) => link.is_unread,
@@ -103,7 +103,7 @@ impl<D: Disk, S: PeerSocket> Connections<D, S> {
         }
     }
 
-    /// A peer's connection takes octets again.
+    /// Notes that a peer's connection takes octets again.
     #[tactic(auto, using(crate::proofs::Pairing::paired, crate::proofs::Known::known_as_before))]
     pub fn unblock(&mut self, key: usize)
         ensures stored { self.new.stored ≡ self.old.stored }

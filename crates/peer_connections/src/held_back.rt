@@ -1,4 +1,4 @@
-//! Sessions that are held back, since no more of them may be read yet.
+//! Sessions that are held back because no more of them may be read yet.
 
 ghost use Rattle.std.specs.Prelude.{◌≡◌};
 ghost use Rattle.peer_connections.specs.Streams.{StayKnown};
@@ -11,7 +11,7 @@ use station::PEERS;
 use std::time::{Duration, Instant};
 
 impl<D: Disk, S: PeerSocket> Connections<D, S> {
-    /// How long it is until sessions that are held back are read on, if some are.
+    /// Returns how long it is until a session that is held back is read again, if there is one.
     pub fn hold_left(&self, now: Instant) -> Option<Duration> {
         let at = self.read_on_at?;
         Some(at.duration_since(now))
@@ -33,9 +33,8 @@ impl<D: Disk, S: PeerSocket> Connections<D, S> {
         }
     }
 
-    /// A session that was held back for long enough is read on: its connection is reported once
-    /// more. In a round one is, and the next one in the next round: others have their turn between
-    /// them.
+    /// Reads on from a session that was held back for long enough: its connection is reported once
+    /// more. A round does this for one session, so that others are served in between.
     #[tactic(auto, using(crate::proofs::Known::known_as_before))]
     pub fn read_on(&mut self, registry: &Registry, now: Instant)
         ensures stored { self.new.stored ≡ self.old.stored }

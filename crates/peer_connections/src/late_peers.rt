@@ -1,4 +1,4 @@
-//! Peers that were waited for too long.
+//! Peers that have taken too long.
 
 ghost use Rattle.std.specs.Prelude.{◌≡◌};
 ghost use Rattle.peer_connections.specs.Allowed.{IsLate, IsPassing};
@@ -16,11 +16,11 @@ use journal::{Disk, DiskFault};
 use std::time::{Duration, Instant};
 
 impl<D: Disk, S: PeerSocket> Connections<D, S> {
-    /// Sessions of which nothing came for so many seconds end, and so do those that are read from
-    /// no more, since their peers take nothing. Connections that don't close are closed, and so are
-    /// those that have brought no whole message. Dispensers that are gone for too long are lost,
-    /// and releases that stand for too long end. Nothing is read of a connection, and none is sent
-    /// anything: who is told of these rows is sent them by `send_due`.
+    /// Ends the sessions that sent nothing for `idle` seconds, and those that are no longer read
+    /// because their peers take nothing. Closes connections that don't close by themselves, and
+    /// those that have brought no whole message in time. Loses dispensers that are gone for too
+    /// long, and ends releases that are too old. It reads from no connection and sends nothing:
+    /// `send_due` sends what peers get of these rows.
     #[tactic(auto, using(crate::proofs::Reaching::passed))]
     pub fn sweep<E: Eprint>(
         &mut self,

@@ -1,8 +1,9 @@
-//! The connections of a station's peers: what they send is heard, what they are owed is sent.
+//! The connections of a station's peers: what peers send is heard, and their pending output is
+//! sent.
 //!
-//! What `Connections` does with the station is made of the station's own moves alone
-//! (`specs/Reaches.antt`), so each law of `station` holds of what it serves. One call of a
-//! connection is exact (`specs/Calls.antt`).
+//! `Connections` changes the station only by the station's own moves (`specs/Reaches.antt`), so
+//! each law of `station` holds for what it serves. What one call of a connection does is exact
+//! (`specs/Calls.antt`).
 #![tactic(auto)]
 
 mod allowance;

@@ -1,4 +1,4 @@
-//! How a session's end is told.
+//! How the end of a session is reported.
 
 use crate::nodes::is_of_a_site;
 use station::PeerEnd;

@@ -1,4 +1,4 @@
-//! The rows of the station's own: of dispensers that are gone, and of releases that nobody used.
+//! The station's own rows: of dispensers that are gone, and of releases that nobody used.
 
 ghost use Rattle.std.specs.Prelude.{◌≡◌};
 ghost use Rattle.peer_connections.specs.Allowed.{IsOwn};
@@ -32,7 +32,7 @@ impl<D: Disk, S: PeerSocket> Connections<D, S> {
         }
     }
 
-    /// Does the station act by itself as time passes?
+    /// Does the station do anything by itself as time passes?
     pub fn keeps_up(&self) -> bool {
         self.upkeep.looks_for_lost() || self.stored.gates().house().is_some()
     }
@@ -57,7 +57,7 @@ impl<D: Disk, S: PeerSocket> Connections<D, S> {
         Ok(())
     }
 
-    /// At a start no release of the day before stands: each ends, if there is a house till.
+    /// Ends each release of the day before, at a start, if there is a house till.
     #[tactic(auto, using(crate::proofs::Reaching::done_alone, crate::proofs::Seeing::kept))]
     pub fn end_releases(&mut self) -> Result<(), DiskFault>
         ensures moves { ReachesBy IsOwn self.old.stored self.new.stored }

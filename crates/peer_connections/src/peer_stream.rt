@@ -1,4 +1,4 @@
-//! What a peer's octets pass through: a connection over TCP, or one of a door.
+//! What carries a peer's octets: a connection over TCP, or one of a door.
 
 ghost use Rattle.std.specs.Prelude.{◌≡◌};
 
@@ -9,24 +9,25 @@ use mio::{Interest, Registry, Token};
 use std::io::{self, Read, Write};
 use std::net::Shutdown;
 
-/// A peer's connection: octets both ways, of which the system says when there are some, or when it
-/// takes some. What is known of the octets that it still brings, and of those that it was given,
-/// changes by reads and writes alone.
+/// A peer's connection: it carries octets both ways. The system reports when it has some, and when
+/// it takes some. What is known of the octets that it still brings, and of those that it was given,
+/// changes only by reads and writes.
 pub trait PeerSocket: Read + Write + Drop {
-    /// Small pieces are sent at once.
+    /// Lets small pieces be sent at once.
     fn send_at_once(&self);
 
-    /// It is reported under this key when it is ready.
+    /// Has the connection reported under this key when it is ready.
     fn watch(&mut self, registry: &Registry, key: usize) -> io::Result<()>
         ensures left { Self.remaining self.new ≡ Self.remaining self.old }
         ensures got { Self.contents self.new ≡ Self.contents self.old };
 
-    /// It is reported once more, if it is ready.
+    /// Has the connection reported once more, if it is ready.
     fn watch_again(&mut self, registry: &Registry, key: usize)
         ensures left { Self.remaining self.new ≡ Self.remaining self.old }
         ensures got { Self.contents self.new ≡ Self.contents self.old };
 
-    /// Tells the peer that nothing more will come: its session is over, and it was sent all.
+    /// Tells the peer that nothing more will come. Its session is over, and all its output was
+    /// sent.
     fn shut(&self, sent: AllSent);
 }
 
@@ -35,7 +36,7 @@ pub trait PeerSocket: Read + Write + Drop {
 pub enum PeerStream {
     /// Over TCP.
     Tcp(TcpStream),
-    /// Of a door.
+    /// At a door.
     Unix(UnixStream),
 }
 

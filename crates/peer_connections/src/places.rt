@@ -1,5 +1,5 @@
-//! The places of peers: who comes gets one, and where all are taken, one that waits without a whole
-//! message leaves.
+//! The places of peers. A new peer gets a place. If all places are taken, a peer that waits without
+//! a whole message is dropped for it.
 
 ghost use Rattle.std.specs.Prelude.{◌≡◌, ◌<◌, ◌≤◌, ◌⊎◌, IfOk, IfSome, None, OnErr, Some, false, ℕ};
 ghost use Rattle.std.specs.Prelude.{is_some, true};
@@ -21,8 +21,8 @@ use station::{FREE_PLACES, NODE_SESSIONS};
 use std::time::Instant;
 
 impl<D: Disk, S: PeerSocket> Connections<D, S> {
-    /// A peer has come over TCP. Where it gets no place, or memory is wanting, its connection is
-    /// closed.
+    /// Gives a place to a peer that has come over TCP. If there is no place, or memory runs out,
+    /// its connection is closed.
     #[tactic(auto, using(crate::proofs::Reaching::welcomed, crate::proofs::Coming::coming))]
     pub fn welcome<E: Eprint>(&mut self, registry: &Registry, rt: &E, stream: S, now: Instant)
         ensures comes { Welcomes S.remaining S.contents None stream self.old.links.items
@@ -32,7 +32,8 @@ impl<D: Disk, S: PeerSocket> Connections<D, S> {
         self.settle_or_say(registry, rt, None, stream, now);
     }
 
-    /// A peer has come through the door of this place among the doors, as `welcome` says.
+    /// Does the same as `welcome` for a peer that has come at the door of this place among the
+    /// doors.
     #[tactic(auto, using(crate::proofs::Reaching::welcomed, crate::proofs::Coming::coming))]
     pub fn welcome_at<E: Eprint>(
         &mut self,
@@ -136,8 +137,9 @@ impl<D: Disk, S: PeerSocket> Connections<D, S> {
         }
     }
 
-    /// A connection can't be accepted, since no descriptor is left, say: the peer over TCP leaves
-    /// that has waited longest without a whole message. False where none waits so.
+    /// Drops the TCP peer that has waited longest without a whole message. For when a connection
+    /// can't be accepted, for example because no descriptor is left. Returns false if no peer waits
+    /// so.
     #[tactic(auto, using(crate::proofs::Reaching::welcomed, crate::proofs::Coming::coming))]
     pub fn make_way(&mut self) -> bool
         ensures gone { Dismisses None self.old.links.items self.new.links.items self.old.stored

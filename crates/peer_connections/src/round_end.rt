@@ -1,4 +1,4 @@
-//! The end of a round: its rows are stored, and whoever is due is sent what it is owed.
+//! The end of a round: its rows are stored, and the peers that are due are sent their output.
 
 ghost use Rattle.std.specs.Prelude.{◌≡◌, ◌<◌, ◌≤◌, ◌+◌, ℕ, [], length, List, None, OnOk, Option};
 ghost use Rattle.std.specs.Prelude.{false, get_or, take, true};
@@ -20,11 +20,10 @@ use mio::Registry;
 use std::time::Instant;
 
 impl<D: Disk, S: PeerSocket> Connections<D, S> {
-    /// Each row is stored; then whoever is due is sent what it is owed, and a session that has
-    /// ended is closed. Where the rows can't be stored nothing is sent. At the end the history's
-    /// chapter ends, if it is over. Nobody is passed over: but for what rows that were added
-    /// meanwhile tell them, those that were due are owed nothing more, or their connections have
-    /// stopped.
+    /// Stores each row. Then sends the pending output of the peers that are due, and closes
+    /// sessions that have ended. If the rows can't be stored, nothing is sent. Last, ends the
+    /// history's chapter if it is over. No due peer is passed over: afterwards it has no pending
+    /// output, except of rows that were added meanwhile, or its connection has stopped.
     #[tactic(auto, using(crate::proofs::Reaching::followed))]
     pub fn send_due<E: Eprint>(
         &mut self,

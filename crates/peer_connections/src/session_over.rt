@@ -1,4 +1,5 @@
-//! That a session is over, and that its peer was sent all: who closes a connection has to know it.
+//! Proof that a session is over, and that its peer was sent everything. Closing a connection needs
+//! it.
 
 ghost use Rattle.std.specs.Prelude.{◌≡◌, [], false};
 ghost use Rattle.station.specs.Reads.{owed_at};
@@ -6,8 +7,7 @@ ghost use Rattle.peer_connections.specs.Allowed.{lasts_at};
 
 use journal::{Disk, StoredStation};
 
-/// The session of a peer is over: what its connection still brings may be read, though nobody
-/// hears it.
+/// The session of a peer is over. What its connection still brings may be read, but isn't heard.
 #[derive(Clone, Copy, Debug)]
 pub struct SessionOver(());
 
@@ -22,8 +22,8 @@ impl SessionOver {
     }
 }
 
-/// The session of a peer is over, and it was sent all that it was owed: its connection may be told
-/// that nothing more will come.
+/// The session of a peer is over, and its output was all sent. The peer may be told that nothing
+/// more will come.
 #[derive(Clone, Copy, Debug)]
 pub struct AllSent(());
 

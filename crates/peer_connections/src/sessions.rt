@@ -1,4 +1,4 @@
-//! The sessions that last, as they are shown.
+//! The active sessions, as the page shows them.
 
 ghost use Rattle.std.specs.Prelude.{◌≡◌, IfSome, Some};
 ghost use Rattle.station.specs.Reads.{speaker_at};
@@ -9,20 +9,20 @@ use journal::Disk;
 use stamps::Stamp;
 use std::time::Instant;
 
-/// A session that lasts, of a peer whose node is known.
+/// An active session of a peer whose node is known.
 #[derive(Clone, Copy, Debug, PartialEq, Eq)]
 pub struct Session {
-    /// At a door its node, without one the originator of its first message.
+    /// At a door the door's node, otherwise the originator of the peer's first message.
     pub node: [u8; 2],
-    /// The time of the round in which the peer came, where the clock told it.
+    /// The time of the round in which the peer came, if the clock gave one.
     pub since: Option<Stamp>,
-    /// When octets of it came last.
+    /// When its last octets came.
     pub heard_at: Instant,
 }
 
 impl<D: Disk, S: PeerSocket> Connections<D, S> {
-    /// The session of the peer of this key, if it lasts, and came at a door or has brought a
-    /// message.
+    /// Returns the session of the peer of this key, if it is active, and came at a door or has
+    /// brought a message.
     pub fn session(&self, key: usize) -> Option<Session>
         ensures { IfSome result (λ s. speaker_at self.now.stored.station key ≡ Some s.node) }
     {

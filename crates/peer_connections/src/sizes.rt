@@ -1,18 +1,18 @@
-//! How long a peer is waited for.
+//! How long the station waits for a peer.
 
-/// A peer gets so many seconds for its first whole message.
+/// The seconds that a peer has for its first whole message.
 pub const FIRST_MESSAGE_SECONDS: u64 = 10;
 
-/// A session of which no more may be read for now is read on after so many milliseconds.
+/// The milliseconds after which a session is read again that may not be read for now.
 pub const HOLD_MILLISECONDS: u64 = 100;
 
-/// .. one that has brought no whole message, after so many.
+/// The milliseconds after which such a session is read again if it has brought no whole message.
 pub const FIRST_HOLD_MILLISECONDS: u64 = 10;
 
-/// Where sessions may be silent as long as they like, one that is read from no more, since its peer
-/// takes nothing, lasts so many seconds.
+/// The seconds after which a session ends that is no longer read, because its peer takes nothing,
+/// if sessions have no idle time.
 pub const TAKING_SECONDS: u64 = 60;
 
-/// A peer whose session has ended gets so many seconds for each step in which it takes what it is
-/// owed, and then hangs up.
+/// After a session has ended, the seconds that its peer has for each step: to take more of its
+/// pending output, and last to hang up.
 pub const CLOSING_SECONDS: u64 = 5;

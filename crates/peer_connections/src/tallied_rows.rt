@@ -1,4 +1,4 @@
-//! The tally of the rows that are stored.
+//! The tally of the stored rows.
 
 ghost use Rattle.std.specs.Prelude.{◌≡◌, ◌∷◌, [], OnOk};
 ghost use Rattle.chapters.specs.RowText.{kept_behind};

@@ -4,12 +4,12 @@
 use site_base::{FpNo, POINT_CELLS, POINTS, PointSet};
 use std::time::Instant;
 
-/// How long a dispenser may be gone, and how long a release may stand.
+/// How long a dispenser may be gone, and how old a release may be.
 #[derive(Clone, Copy, Debug, PartialEq, Eq)]
 pub struct Patience {
-    /// A dispenser that has had no session for so many seconds is lost; 0: none is.
+    /// The seconds without a session after which a dispenser is lost. With 0 none is lost.
     pub lost_seconds: u64,
-    /// A release that has stood for so many seconds ends, where there is a house till.
+    /// The seconds after which a release ends, if there is a house till.
     pub release_seconds: u64,
 }
 

@@ -6,17 +6,16 @@ ghost use Rattle.peer_talk.specs.Text.{talk_number};
 use app_message::GrammarFault;
 use thiserror::Error;
 
-/// The number by which another originator than the session's is told that it is another.
+/// The number that refuses a message of another originator than the session's.
 pub const ORIGINATOR_CHANGED: u8 = 57;
 
-/// What the text of a session ends with.
+/// The fault with which the text of a session ends.
 #[derive(Clone, Copy, Debug, PartialEq, Eq, Error)]
 pub enum TalkFault {
-    /// The octets have a fault; the refusal of it was written last.
+    /// The octets have a fault. Its refusal was written last.
     #[error("a faulty header or body")]
     Stream(GrammarFault),
-    /// A message came from another originator than the first one; the refusal of it was written
-    /// last.
+    /// A message came from another originator than the first one. Its refusal was written last.
     #[error("another originator")]
     OriginatorChanged,
     /// The octets end inside a message.
@@ -25,7 +24,7 @@ pub enum TalkFault {
 }
 
 impl TalkFault {
-    /// Its number: 40 to 44, or 57.
+    /// Returns its number: 40 to 44, or 57.
     pub fn number(self) -> u8
         ensures { result ≡ talk_number self }
     {

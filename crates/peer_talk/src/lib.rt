@@ -1,9 +1,9 @@
 //! The talk with one peer, without its connection: who speaks, which till is signed on, what a
 //! message means, and the messages that go back. Sessions over a connection, the station and the
-//! replay all use it.
+//! replay use it.
 //!
-//! What is said to a peer is defined in `specs/Text.antt`, what is asked and answered in
-//! `specs/Exchanges.antt`.
+//! `specs/Text.antt` defines what is said to a peer, and `specs/Exchanges.antt` what is asked and
+//! answered.
 #![tactic(auto)]
 
 mod fault;

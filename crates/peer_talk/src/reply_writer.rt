@@ -9,7 +9,7 @@ use site_base::{NoMemory, Reply};
 use std::alloc::Global;
 use std::mem;
 
-/// Writes the messages that go back, each into the buffer of the last one that was given back.
+/// Writes the messages that go back, each into the buffer of the last message that was given back.
 #[derive(Drop)]
 pub struct ReplyWriter {
     alloc: Global,
@@ -17,7 +17,7 @@ pub struct ReplyWriter {
 }
 
 impl ReplyWriter {
-    /// A writer without a buffer. It takes no memory.
+    /// Returns a writer without a buffer. It takes no memory.
     pub fn new(alloc: Global) -> ReplyWriter {
         ReplyWriter {
             alloc,
@@ -25,7 +25,7 @@ impl ReplyWriter {
         }
     }
 
-    /// The message that tells a reply to a request.
+    /// Returns the message that answers a request with a reply.
     #[inline(always)]
     pub fn write_reply(
         &mut self,
@@ -37,7 +37,7 @@ impl ReplyWriter {
         reply_in(self.take_buffer(), request, reply)
     }
 
-    /// The message that tells a number in place of a reply.
+    /// Returns the message that answers a request with a number in place of a reply.
     pub fn write_number(
         &mut self,
         request: &SpelledMessage<'_>,
@@ -48,14 +48,14 @@ impl ReplyWriter {
         refusal_in(self.take_buffer(), request, number)
     }
 
-    /// The message that tells why a stream ended.
+    /// Returns the message that says why a stream ended.
     pub fn write_fault(&mut self, fault: &StreamFault) -> Result<Message, NoMemory>
         ensures { IfOk result (λ message. message ≡ fault_message fault.now) }
     {
         stream_refusal(self.alloc, fault)
     }
 
-    /// Takes back a message that was told: its buffer serves the next one.
+    /// Takes back a message that was sent: its buffer is used for the next one.
     #[inline(always)]
     pub fn give_back(&mut self, message: Message) {
         self.buffer = message.into_buffer();

@@ -25,8 +25,7 @@ pub enum Meaning {
 /// What is known of a peer between two messages: whom the talk serves, the till that it signed on
 /// and didn't sign off, and how many requests it asked.
 ///
-/// Whoever has messages takes each one's meaning, finds what is answered to it, notes that, and
-/// tells it.
+/// Its user takes the meaning of each message, finds the answer, notes that, and sends it.
 #[derive(Drop)]
 pub struct Talk {
     peer: Option<[u8; 2]>,
@@ -45,7 +44,7 @@ impl Model for Talk {
 }
 
 impl Talk {
-    /// Before the first message.
+    /// Returns a talk before its first message.
     pub fn new() -> Talk
         ensures { result ≡ opening_talk }
     {
@@ -56,14 +55,14 @@ impl Talk {
         }
     }
 
-    /// The originator of the first message, whom the session serves.
+    /// Returns the originator of the first message, whom the session serves.
     pub fn peer(&self) -> Option<[u8; 2]>
         ensures { result ≡ self.now.peer }
     {
         self.peer
     }
 
-    /// The till that was signed on and not signed off: the one that the session serves.
+    /// Returns the till that was signed on and not signed off: the one that the session serves.
     pub fn till(&self) -> Option<TillNo>
         ensures till { result ≡ self.now.on }
         ensures own { IsOwn self.now.on self.now.peer }
@@ -71,15 +70,15 @@ impl Talk {
         self.on
     }
 
-    /// The number of requests asked.
+    /// Returns the number of requests that were asked.
     pub fn request_count(&self) -> u64
         ensures { result ≡ self.now.asked }
     {
         self.asked
     }
 
-    /// Takes what a message means. The first one's originator is whom the session serves; whoever
-    /// asks for an event is that one.
+    /// Takes the meaning of a message. The session serves the originator of the first message. The
+    /// actor of a request is always that originator.
     pub fn take_meaning(&mut self, message: &Message) -> Meaning
         ensures meaning { result ≡ meaning_at self.old.peer message.now }
         ensures peer { self.new
@@ -121,7 +120,7 @@ impl Talk {
         }
     }
 
-    /// A request was asked and answered so.
+    /// Notes that a request was asked and had this outcome.
     pub fn note(&mut self, actor: &Actor, event: &Event, outcome: &Result<Reply, NoRow>)
         requires { IsSpokenBy actor.now self.old.peer }
         ensures peer { self.new.peer ≡ self.old.peer }
@@ -138,8 +137,8 @@ impl Talk {
         }
     }
 
-    /// Somebody else has signed this till off: if it was the one that was signed on here, it isn't
-    /// any more.
+    /// Notes that somebody else has signed off this till. If it was signed on here, it isn't any
+    /// more.
     pub fn forget_till(&mut self, till: TillNo)
         ensures { self.new ≡ record self.old { on = without_on till self.old.on } }
     {

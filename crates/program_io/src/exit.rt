@@ -23,10 +23,10 @@ pub const FAULT: u8 = 1;
 /// The exit status of a mistake on the command line.
 pub const COMMAND_LINE: u8 = 2;
 
-/// The exit status where memory ran out.
+/// The exit status when memory ran out.
 pub const NO_MEMORY: u8 = 4;
 
-/// Prints why a replay ended, if it ended with a fault.
+/// Prints why a replay ended, if it ended with a fault, and returns the exit status.
 pub fn exit_replay(rt: &impl Eprint, fault: Option<ReplayFault>) -> ExitCode
     ensures { exit_status result ≡ status_after fault }
 {
@@ -36,28 +36,28 @@ pub fn exit_replay(rt: &impl Eprint, fault: Option<ReplayFault>) -> ExitCode
     }
 }
 
-/// Prints a fault, and ends with this status.
+/// Prints a fault, and returns this status.
 pub fn exit_fault<F: Display + Drop>(rt: &impl Eprint, fault: F, status: u8) -> ExitCode
     ensures { exit_status result ≡ status }
 {
     exit_with(eprintln!(rt; "{fault}"), status)
 }
 
-/// Says that memory ran out.
+/// Prints that memory ran out, and returns `NO_MEMORY`.
 pub fn exit_no_memory(rt: &impl Eprint) -> ExitCode
     ensures { exit_status result ≡ NO_MEMORY }
 {
     exit_with(eprintln!(rt; "fault 31"), NO_MEMORY)
 }
 
-/// Says that standard output takes no more.
+/// Prints that standard output takes no more, and returns `FAULT`.
 pub fn exit_unwritten(rt: &impl Eprint) -> ExitCode
     ensures { exit_status result ≡ FAULT }
 {
     exit_with(eprintln!(rt; "fault 62"), FAULT)
 }
 
-/// This status, also where standard error didn't take the text.
+/// Returns this status, even if standard error didn't take the text.
 pub fn exit_with(printed: io::Result<()>, status: u8) -> ExitCode
     ensures { exit_status result ≡ status }
 {

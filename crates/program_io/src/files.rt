@@ -1,4 +1,4 @@
-//! Files that a command reads whole.
+//! Files that a command reads as a whole.
 
 ghost use Rattle.std.specs.Prelude.{◌≡◌, IfErr, IfOk, Ok};
 ghost use Rattle.std.specs.Process.{exit_status};
@@ -14,8 +14,8 @@ use std::io::{Error, ErrorKind};
 use std::process::ExitCode;
 use std::rt::Files;
 
-/// The site of the file of this name, or how the program ends: the file can't be read, or has a
-/// fault.
+/// Reads the site from the file of this name. If the file can't be read or has a fault, prints that
+/// and returns the exit status.
 pub fn read_site<R: Files + Eprint + AllocGlobal>(
     rt: &R,
     name: &str,
@@ -26,7 +26,7 @@ pub fn read_site<R: Files + Eprint + AllocGlobal>(
     Ok(config)
 }
 
-/// The same, with the octets of the file.
+/// Does the same as `read_site`, and returns the octets of the file too.
 pub fn read_site_file<R: Files + Eprint + AllocGlobal>(
     rt: &R,
     name: &str,
@@ -55,7 +55,7 @@ fn exit_site_fault<R: Eprint + AllocGlobal>(rt: &R, octets: &[u8], fault: Config
     }
 }
 
-/// The octets of the file of this name, or how the program ends.
+/// Reads the octets of the file of this name. On an error, prints it and returns the exit status.
 pub fn read_file<R: Files + Eprint + AllocGlobal>(rt: &R, name: &str) -> Result<Vec<u8>, ExitCode>
     ensures failed { IfErr result IsFailed }
 {

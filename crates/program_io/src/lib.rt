@@ -13,5 +13,5 @@ pub use exit::{
 pub use files::{is_folder, read_file, read_site, read_site_file};
 pub use lines::read_line;
 
-/// The read calls and interrupted write calls that a command may make.
+/// The most read calls and interrupted write calls that a command makes.
 pub const TURNS: u64 = 1_000_000_000;

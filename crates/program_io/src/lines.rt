@@ -10,9 +10,9 @@ use hex_lines::LINE_OCTETS;
 use std::io::{BufRead, ErrorKind, Read};
 use std::process::ExitCode;
 
-/// Reads the next line, without its line feed, in place of what the buffer holds; false at the end
-/// of the input. No more is read of a line than it takes to see that it is too long. Where the
-/// input can't be read, it answers how the program ends.
+/// Reads the next line into the buffer, in place of what it holds, without the line feed. Returns
+/// false at the end of the input. It stops reading a line as soon as the line is too long. If the
+/// input can't be read, prints that and returns the exit status.
 pub fn read_line<R: BufRead>(
     rt: &impl Eprint,
     reader: &mut R,

@@ -1,8 +1,8 @@
-//! The law of a chapter that is replayed.
+//! The law of a replayed chapter.
 
 ghost use Rattle.replayed_journals.specs.Laws.{JournalsAreReplayed};
 
-/// A replay of the first chapter's text makes that history, too, up to the row that fills the book.
+/// A replay of the first chapter's text makes that history too, up to the row that fills the book.
 pub fn journals_are_replayed()
     ensures { JournalsAreReplayed }
 {}

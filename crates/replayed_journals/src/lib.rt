@@ -1,5 +1,5 @@
 //! A chapter as a replay reads it: the law that joins a chapter's text to the replay's. It has no
-//! code, and stands above both, so that neither stands on the other.
+//! code. The crate is above both, so that neither depends on the other.
 #![tactic(auto)]
 
 mod laws;

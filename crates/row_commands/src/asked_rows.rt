@@ -14,15 +14,15 @@ use std::process::ExitCode;
 /// The rows of a history that are printed.
 #[derive(Clone, Copy, Debug, PartialEq, Eq)]
 pub struct AskedRows {
-    /// Those of these shifts; without any those of all.
+    /// Rows of these shifts only; None for all shifts.
     pub shifts: Option<ShiftRange>,
-    /// Those from this number on.
+    /// Rows from this number on.
     pub from: u64,
 }
 
 impl AskedRows {
-    /// The rows that the values of `--shift` and `--from` say, all without them; or how the program
-    /// ends.
+    /// Reads the values of `--shift` and `--from`. Without them all rows are asked for. If a value
+    /// is wrong, prints that and returns the exit status.
     pub fn read(
         rt: &impl Eprint,
         shift: Option<&str>,
@@ -35,13 +35,14 @@ impl AskedRows {
         Ok(AskedRows { shifts, from })
     }
 
-    /// Is the row of this number asked for, before which this shift was open?
+    /// Is the row of this number asked for? `shift` is the shift that was open before it.
     pub fn has(&self, number: u64, shift: ShiftNo) -> bool {
         self.from <= number && is_asked(&self.shifts, shift)
     }
 
-    /// How the program ends where the history has no such rows yet: it has so many, and this shift
-    /// is open. The next row may be the first one that is asked for.
+    /// Checks that the history has such rows. `rows` is the number of its rows, `open_shift` its
+    /// open shift. The next row may be the first one that is asked for. If the history doesn't
+    /// reach so far yet, prints that and returns the exit status.
     pub fn check(&self, rt: &impl Eprint, rows: u64, open_shift: ShiftNo) -> Result<(), ExitCode>
         ensures there { OnOk result (self.now.from ≤ rows) }
         ensures failed { IfErr result (λ status. exit_status status ≡ FAULT) }

@@ -13,7 +13,7 @@ use past_rows::ShiftRange;
 use std::process::ExitCode;
 use std::rt::Files;
 
-/// Prints what the history in a folder counts at each nozzle, or its gaps: of all its shifts, or of
+/// Prints what the history in a folder counts at each nozzle, or its gaps: for all shifts, or for
 /// those that are asked for.
 pub fn run_meters_folder<R: Files + Print + Eprint + AllocGlobal>(
     rt: &R,

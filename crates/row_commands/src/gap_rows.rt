@@ -1,4 +1,4 @@
-//! The gaps of the rows of some shifts of a folder.
+//! The gaps in the rows of some shifts of a folder.
 
 ghost use Rattle.std.specs.Prelude.{◌≡◌, ◌≤◌, [], IfOk, IfSome, None, OnOk, false, length};
 ghost use Rattle.history_folder.specs.Reading.{IsWhole};
@@ -21,7 +21,7 @@ use stamps::Stamp;
 use std::process::ExitCode;
 use std::rt::Files;
 
-/// The gaps of the rows of these shifts; if they are timed, with the rows' times.
+/// Reads the gaps in the rows of these shifts. If `is_timed`, the gaps have the rows' times.
 pub fn read_gaps<R: Files + Eprint + AllocGlobal>(
     rt: &R,
     folder: &str,
@@ -40,7 +40,7 @@ pub fn read_gaps<R: Files + Eprint + AllocGlobal>(
     Ok(reader.into_gaps())
 }
 
-/// A reader of gaps at the opening of this site.
+/// Returns a reader of gaps at the opening of this site.
 pub fn open_gaps<R: Eprint + AllocGlobal>(
     rt: &R,
     config: &SiteConfig,
@@ -90,7 +90,7 @@ fn note_rows<R: Files + Eprint + AllocGlobal>(
     Err(exit_replay(rt, Some(ReplayFault::Read(ReadFault::TurnLimit))))
 }
 
-/// The number of the next row of a book, and the shift that is open before it.
+/// Returns the number of the next row of a book, and the shift that is open before it.
 pub fn next_place(book: &SiteBook) -> (u64, ShiftNo)
     ensures row { result.0 ≡ length book.now.rows }
     ensures shift { result.1 ≡ open_after book.now.rows }
@@ -105,8 +105,9 @@ fn time_if(is_timed: bool, walk: &FolderWalk) -> Option<Stamp>
     if is_timed { walk.end().time() } else { None }
 }
 
-/// Notes the gaps of a row that comes while this shift is open, if it isn't behind those that are
-/// asked for. Before the first of those they begin again.
+/// Notes the gaps of a row, unless it is after the shifts that are asked for. `shift` is the shift
+/// that is open when the row comes. Gaps that were noted before the first of those shifts are
+/// dropped.
 pub fn note_row<R: Eprint + AllocGlobal>(
     rt: &R,
     shifts: &Option<ShiftRange>,

@@ -1,6 +1,6 @@
-//! The commands that print of a history's rows: `replay`, `explain`, `sales`, `meters` and `report`
-//! of a folder, of all its shifts or of some; `story` of one sale (`specs/Stories.antt`); and
-//! `verify`, which reads each row and says where the history ends.
+//! The commands that print the rows of a history: `replay`, `explain`, `sales`, `meters` and
+//! `report` of a folder, for all its shifts or for some; `story` of one sale
+//! (`specs/Stories.antt`); and `verify`, which reads each row and says where the history ends.
 #![tactic(auto)]
 
 mod asked_rows;

@@ -14,7 +14,7 @@ use site_base::{NoMemory, Row, ShiftNo, SiteConfig};
 use std::process::ExitCode;
 use std::rt::Files;
 
-/// The figures of each nozzle, of the rows of these shifts.
+/// Reads the figures of each nozzle from the rows of these shifts.
 pub fn read_meters<R: Files + Eprint + AllocGlobal>(
     rt: &R,
     folder: &str,

@@ -10,7 +10,8 @@ use program_io::{COMMAND_LINE, FAULT, exit_with};
 use site_base::ShiftNo;
 use std::process::ExitCode;
 
-/// The shifts that the value of `--shift` says, all without one; or how the program ends.
+/// Reads the value of `--shift`. Without one, returns None, for all shifts. If the value is wrong,
+/// prints that and returns the exit status.
 pub fn read_shifts(rt: &impl Eprint, word: Option<&str>) -> Result<Option<ShiftRange>, ExitCode>
     ensures all { word.entry ≡ None → IfOk result (λ shifts. shifts ≡ None) }
     ensures some { IsSome word.entry → IfOk result (λ shifts. IsSome shifts) }
@@ -31,7 +32,7 @@ pub fn read_shifts(rt: &impl Eprint, word: Option<&str>) -> Result<Option<ShiftR
     }
 }
 
-/// Is this shift asked for? Each is, where none is named.
+/// Is this shift asked for? If no shifts are named, each one is.
 pub fn is_asked(shifts: &Option<ShiftRange>, shift: ShiftNo) -> bool
     ensures all { shifts.now ≡ None → result ≡ true }
     ensures some { IfSome shifts.now (λ asked.
@@ -43,7 +44,7 @@ pub fn is_asked(shifts: &Option<ShiftRange>, shift: ShiftNo) -> bool
     }
 }
 
-/// How the program ends where the last of these shifts isn't there yet.
+/// If the last of these shifts hasn't begun, prints that and returns the exit status.
 pub fn check_shifts(
     rt: &impl Eprint,
     shifts: &Option<ShiftRange>,
@@ -59,7 +60,7 @@ pub fn check_shifts(
     }
 }
 
-/// How the program ends where this shift isn't there yet.
+/// If this shift hasn't begun, prints that and returns the exit status.
 pub fn check_there(rt: &impl Eprint, shift: ShiftNo, open_shift: ShiftNo) -> Result<(), ExitCode>
     ensures there { OnOk result (shift ≤ open_shift) }
     ensures missing { OnErr result (open_shift < shift) }
@@ -85,7 +86,7 @@ pub fn is_before(shifts: &Option<ShiftRange>, shift: ShiftNo) -> bool
     }
 }
 
-/// Is this shift behind those that are asked for?
+/// Is this shift after those that are asked for?
 pub fn is_behind(shifts: &Option<ShiftRange>, shift: ShiftNo) -> bool
     ensures { result ≡ is_behind shifts.now shift }
 {

@@ -1,4 +1,4 @@
-//! Text on standard output, which is printed in pieces.
+//! Text on standard output, printed in pieces.
 
 ghost use Rattle.std.specs.Prelude.{◌≡◌, ◌≤◌, ◌<◌, [], IfErr, length};
 ghost use Rattle.std.specs.Process.{exit_status};
@@ -10,8 +10,8 @@ use site_base::NoMemory;
 use std::io;
 use std::process::ExitCode;
 
-/// Prints a text, and empties it, so that nothing is written again; or says that standard output
-/// takes no more.
+/// Prints a text, and empties it, so that nothing is written twice. If standard output takes no
+/// more, prints that and returns the exit status. The text is empty then too.
 pub fn print_text(rt: &(impl Print + Eprint), text: &mut Vec<u8>) -> Result<(), ExitCode>
     ensures empty { text.new.items ≡ [] }
     ensures failed { IfErr result (λ status. exit_status status ≡ FAULT) }
@@ -25,7 +25,7 @@ pub fn print_text(rt: &(impl Print + Eprint), text: &mut Vec<u8>) -> Result<(), 
     }
 }
 
-/// Prints a text where it has grown to a piece.
+/// Prints and empties a text if it has grown to a piece. A shorter one stays.
 pub fn print_piece(rt: &(impl Print + Eprint), text: &mut Vec<u8>) -> Result<(), ExitCode>
     ensures kept { length text.old.items < PIECE_OCTETS → text.new.items ≡ text.old.items }
     ensures empty { PIECE_OCTETS ≤ length text.old.items → text.new.items ≡ [] }
@@ -37,7 +37,7 @@ pub fn print_piece(rt: &(impl Print + Eprint), text: &mut Vec<u8>) -> Result<(),
     print_text(rt, text)
 }
 
-/// Prints a table, if there was memory for it.
+/// Prints a table. If there was no memory for it, prints that and returns the exit status.
 pub fn print_table(
     rt: &(impl Print + Eprint),
     table: Result<Vec<u8>, NoMemory>,

@@ -28,7 +28,8 @@ use std::alloc::Global;
 use std::process::ExitCode;
 use std::rt::Files;
 
-/// Prints the report of these shifts for people, or of all, and what there is to say of their gaps.
+/// Prints the report of these shifts for people, or of all shifts, and what it says about their
+/// gaps.
 pub fn report_people<R: Files + Print + Eprint + AllocGlobal>(
     rt: &R,
     folder: &str,

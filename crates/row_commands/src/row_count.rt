@@ -9,11 +9,11 @@ use stamps::Stamp;
 /// What is counted of a history while its rows are read.
 #[derive(Clone, Copy, Debug, PartialEq, Eq)]
 pub struct RowCount {
-    /// So many rows were read.
+    /// The number of rows that were read.
     pub rows: u64,
-    /// So many of them stand behind the last seal that stands before the last row.
+    /// The number of rows after the last seal that precedes the last row.
     pub unsealed: u64,
-    /// So many seals stand before the last row.
+    /// The number of seals that precede the last row.
     pub seals: u64,
     /// The time of the first row.
     pub first: Option<Stamp>,
@@ -22,7 +22,7 @@ pub struct RowCount {
 }
 
 impl RowCount {
-    /// Before the first row.
+    /// Returns the count before the first row.
     pub fn new() -> RowCount
         ensures { result ≡ record {
           rows = 0;
@@ -41,7 +41,7 @@ impl RowCount {
         }
     }
 
-    /// Counts a row; the text that is read ends so right behind it.
+    /// Counts a row. `end` says where the text that is read ends right after that row.
     pub fn add_row(&mut self, end: &HistoryEnd)
         ensures { self.new ≡ with_row self.old end.now }
     {
@@ -57,7 +57,7 @@ impl RowCount {
         self.last = end.time();
     }
 
-    /// So many rows no seal covers, in a history that ends so.
+    /// Returns the number of rows that no seal covers, in a history that ends at `end`.
     pub fn uncovered(&self, end: &HistoryEnd) -> u64
         ensures { result ≡ uncovered_by self.now end.now }
     {

@@ -9,10 +9,10 @@ use site_base::{NoMemory, Row, SiteConfig};
 use stamps::Stamp;
 use std::alloc::Global;
 
-/// In which form rows are printed.
+/// The form in which rows are printed.
 #[derive(Clone, Copy, Debug, PartialEq, Eq)]
 pub enum FormKind {
-    /// Their replies, and with changes the notices too, as lines of hexadecimal.
+    /// Their replies as lines of hexadecimal; with `changes` the notices too.
     Reply { changes: bool },
     /// Their words.
     Words,
@@ -22,7 +22,7 @@ pub enum FormKind {
     Json,
 }
 
-/// What is printed of a row, and what that needs.
+/// The form in which a row is printed, with what that form needs.
 #[derive(Drop)]
 pub enum RowForm {
     /// Its reply, as lines of hexadecimal.
@@ -36,7 +36,7 @@ pub enum RowForm {
 }
 
 impl RowForm {
-    /// A form of this kind, before the first row of a history of this site.
+    /// Returns a form of this kind, before the first row of a history of this site.
     pub fn open(alloc: Global, kind: FormKind, config: &SiteConfig) -> Result<RowForm, NoMemory> {
         match kind {
             FormKind::Reply { changes } => Ok(RowForm::Reply(ReplyLines::new(alloc, changes))),
@@ -46,8 +46,8 @@ impl RowForm {
         }
     }
 
-    /// Takes the next row of the history, which has this number and time, and appends what is
-    /// printed of it, if it is asked for. After `NoMemory` there may be a part of it.
+    /// Takes the next row of the history, with its number and time. If it is asked for, appends the
+    /// text of the row. After `NoMemory` a part of that text may have been appended.
     pub fn put(
         &mut self,
         alloc: Global,

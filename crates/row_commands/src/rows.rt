@@ -30,8 +30,8 @@ pub fn run_replay_folder<R: Files + Print + Eprint + AllocGlobal>(
     run_rows(rt, options.site, options.shift, options.from, kind)
 }
 
-/// Prints the rows of the history in a folder in words, a line for each, with its time ahead of it
-/// if that is asked for.
+/// Prints the rows of the history in a folder in words, one line for each. With `--times` the row's
+/// time is at the front of its line.
 pub fn run_explain_folder<R: Files + Print + Eprint + AllocGlobal>(
     rt: &R,
     folder: &str,

@@ -10,9 +10,9 @@ use site_base::{Answer, Event, FpNo, NoMemory, Row};
 use std::alloc::Global;
 use std::marker::Model;
 
-/// The story of a sale: the rows from the release of its point to the one that sold it, and those
-/// behind it that name it. It is found row after row: until it is sold, only the rows of the
-/// fuelling under way at its point are kept.
+/// The story of a sale: the rows from the release of its point to the row that sold it, and the
+/// later rows that name it. It is found row by row. Until the sale is sold, only the rows of the
+/// fuelling in progress at its point are kept.
 #[derive(Drop)]
 pub struct SaleStory {
     sale: SaleName,
@@ -29,7 +29,7 @@ impl Model for SaleStory {
 }
 
 impl SaleStory {
-    /// The story of this sale, before the first row. It takes no memory.
+    /// Returns the story of this sale, before the first row. It takes no memory.
     pub fn new(alloc: Global, sale: &SaleName) -> SaleStory
         ensures { result ≡ record { sale = sale.now; rows = []; sold = false } }
     {
@@ -47,7 +47,7 @@ impl SaleStory {
         self.is_sold
     }
 
-    /// The rows that are kept: once the sale is sold, those of its story.
+    /// Returns the rows that are kept. Once the sale is sold, they are the rows of its story.
     pub fn rows(&self) -> &[PastRow]
         ensures { result.now ≡ self.now.rows }
     {

@@ -9,7 +9,8 @@ use sales_table::SaleName;
 use site_base::{FpNo, Seq, ShiftNo};
 use std::process::ExitCode;
 
-/// The sale that this word says: its point, shift and number, as 3/2/17; or how the program ends.
+/// Reads the point, shift and number of a sale from a word such as 3/2/17. If the word is wrong,
+/// prints that and returns the exit status.
 pub fn read_sale(rt: &impl Eprint, word: &str) -> Result<SaleName, ExitCode>
     ensures failed { IfErr result (λ status. exit_status status ≡ COMMAND_LINE) }
 {

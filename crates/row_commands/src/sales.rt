@@ -20,7 +20,7 @@ use stamps::{Stamp, TimeSpan};
 use std::process::ExitCode;
 use std::rt::Files;
 
-/// Prints the table of the sales of the history in a folder, or of what tests drew.
+/// Prints the table of the sales of the history in a folder, or of the draws of tests.
 pub fn run_sales_folder<R: Files + Print + Eprint + AllocGlobal>(
     rt: &R,
     options: SalesOptions<'_>,

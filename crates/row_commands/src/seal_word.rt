@@ -14,8 +14,8 @@ use std::process::ExitCode;
 /// The octets of a seal.
 const SEAL_OCTETS: usize = 32;
 
-/// The seal that the value of `--seal` says, in 64 digits of lower case; None without one. Or how
-/// the program ends.
+/// Reads the value of `--seal`, and returns it as 64 digits in lower case. Without one, returns
+/// None. If the value is wrong or memory runs out, prints that and returns the exit status.
 pub fn read_seal<R: Eprint + AllocGlobal>(
     rt: &R,
     word: Option<&str>,

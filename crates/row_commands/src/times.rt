@@ -7,8 +7,9 @@ use stamps::{Stamp, TimeSpan, first_time, last_time};
 use std::alloc::AllocError;
 use std::process::ExitCode;
 
-/// The span of time that the values of `--from` and `--to` say, without either none; or how the
-/// program ends. A date alone stands for its first millisecond, or for its last.
+/// Reads the values of `--from` and `--to`. Without either, returns None. A date alone means its
+/// first millisecond in `--from`, and its last in `--to`. If a value is wrong or memory runs out,
+/// prints that and returns the exit status.
 pub fn read_span<R: Eprint + AllocGlobal>(
     rt: &R,
     from: Option<&str>,

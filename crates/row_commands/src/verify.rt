@@ -21,8 +21,8 @@ use std::alloc::Global;
 use std::process::ExitCode;
 use std::rt::Files;
 
-/// Reads the whole history in a folder, and prints how much there is and its last seal, or its
-/// first fault; and where a seal stands in it, if one is looked for.
+/// Reads the whole history in a folder. Prints how much there is and the last seal, or the first
+/// fault. If a seal is given, also prints where it is in the history.
 pub fn run_verify<R: Files + Print + Eprint + AllocGlobal>(
     rt: &R,
     options: VerifyOptions<'_>,

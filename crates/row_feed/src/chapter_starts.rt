@@ -1,4 +1,4 @@
-//! In which chapter a row is.
+//! The chapter of a row.
 
 ghost use Rattle.std.specs.Prelude.{◌≡◌, ◌∷◌, ◌++◌, [], OnErr, OnOk, count_by, nat_le};
 ghost use Rattle.row_feed.specs.FeedFaults.{chapter_of};
@@ -22,7 +22,7 @@ impl Model for ChapterStarts {
 }
 
 impl ChapterStarts {
-    /// No chapters. It takes no memory.
+    /// Returns a list without chapters. It takes no memory.
     pub fn new(alloc: Global) -> ChapterStarts
         ensures { result ≡ [] }
     {
@@ -31,7 +31,7 @@ impl ChapterStarts {
         }
     }
 
-    /// The next chapter begins with this row.
+    /// Notes that the next chapter begins with this row.
     pub fn add(&mut self, row: u64) -> Result<(), NoMemory>
         ensures added { OnOk result (self.new ≡ self.old ++ row ∷ []) }
         ensures err { OnErr result (self.new ≡ self.old) }
@@ -40,7 +40,8 @@ impl ChapterStarts {
         Ok(())
     }
 
-    /// The number of the chapter in which a row is: so many begin with it, or with an earlier one.
+    /// Returns the number of the chapter that has a row: the number of chapters that begin with
+    /// that row or an earlier one.
     pub fn chapter_of(&self, row: u64) -> usize
         ensures { result ≡ chapter_of self.now row }
     {

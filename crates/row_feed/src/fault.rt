@@ -16,7 +16,7 @@ use std::alloc::{AllocError, Global};
 pub enum FeedFault {
     /// Its first line isn't `from N` or `from end`.
     NoFrom,
-    /// It asked for a row ahead of the next one.
+    /// It asked for a row after the next one.
     Ahead { row: u64, next: u64 },
     /// The row is in this chapter, and not in memory.
     InChapter { row: u64, chapter: u64 },
@@ -25,7 +25,7 @@ pub enum FeedFault {
 }
 
 impl FeedFault {
-    /// Why a row that can't be fed any more isn't.
+    /// Returns why a row can't be fed that isn't in memory any more.
     pub fn of_forgotten(row: u64, starts: &ChapterStarts) -> FeedFault
         ensures { result ≡ forgotten_fault starts.now row }
     {

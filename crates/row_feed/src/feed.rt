@@ -15,8 +15,8 @@ use site_base::NoMemory;
 use std::alloc::Global;
 use std::marker::Model;
 
-/// A peer that is fed rows: how far it has come, and what was made for it and not taken yet. After
-/// `NoMemory` it is to be closed.
+/// A peer that is fed rows: how far it has come, and what was made for it and not taken yet. Close
+/// it after `NoMemory`.
 #[derive(Drop)]
 pub struct Feed {
     alloc: Global,
@@ -43,7 +43,7 @@ impl Model for Feed {
 }
 
 impl Feed {
-    /// A peer that has sent nothing. It takes no memory.
+    /// Returns a peer that has sent nothing. It takes no memory.
     pub fn new(alloc: Global) -> Feed
         ensures { result ≡ new_feed }
     {
@@ -56,14 +56,14 @@ impl Feed {
         }
     }
 
-    /// How far it has come.
+    /// Returns how far it has come.
     pub fn stage(&self) -> Stage
         ensures { result ≡ self.now.stage }
     {
         self.stage
     }
 
-    /// Octets of the peer, while this is the number of the next row.
+    /// Hears octets of the peer. `next` is the number of the next row.
     pub fn hear(&mut self, octets: &[u8], next: u64) -> Result<(), NoMemory>
         ensures { OnOk result (Hears next octets.now self.old self.new) }
     {
@@ -120,8 +120,9 @@ impl Feed {
         Ok(())
     }
 
-    /// Makes lines for a peer that has taken all: those of the rows from its next one on, as many
-    /// as fit; or it is told that this row isn't in memory any more, and in which chapter it is.
+    /// Makes lines for a peer that has taken everything: those of the rows from its next one on, as
+    /// many as fit. If that row isn't in memory any more, the line says so, and in which chapter
+    /// the row is.
     pub fn make(&mut self, rows: &LastRows, starts: &ChapterStarts) -> Result<(), NoMemory>
         ensures { OnOk result (Makes starts.now rows.now self.old self.new) }
     {
@@ -141,7 +142,7 @@ impl Feed {
         Ok(())
     }
 
-    /// A peer that is fed, and has taken all, is told which row is next.
+    /// Makes the line that says which row is next, for a peer that is fed and has taken everything.
     pub fn say_alive(&mut self) -> Result<(), NoMemory>
         ensures { OnOk result (self.new ≡ alive self.old) }
     {
@@ -154,14 +155,14 @@ impl Feed {
         put_alive(self.alloc, next, &mut self.text)
     }
 
-    /// What was made and not taken yet.
+    /// Returns what was made and not taken yet.
     pub fn pending(&self) -> &[u8]
         ensures { result.now ≡ self.now.pending }
     {
         &self.text[self.taken..]
     }
 
-    /// So many octets were taken, or all, where fewer are pending.
+    /// Notes that this many octets were taken, or all if fewer are pending.
     pub fn take(&mut self, count: usize)
         ensures { self.new ≡ with_taken count self.old }
     {
@@ -173,7 +174,7 @@ impl Feed {
         }
     }
 
-    /// Is it fed nothing more, and has it taken all?
+    /// Is the peer fed nothing more, and has it taken everything?
     pub fn is_over(&self) -> bool {
         self.stage == Stage::Over && self.pending().is_empty()
     }

@@ -1,4 +1,4 @@
-//! The line that a peer begins with.
+//! The first line of a peer.
 
 ghost use Rattle.row_feed.specs.FirstLines.{AsksFrom};
 

@@ -1,6 +1,6 @@
-//! A feed of a history's rows, without its socket: a peer that is fed the last ones. A peer sends
-//! one line, `from N` or `from end`, and is sent the line of each stored row from that one on. It
-//! is a cursor and no outbox: lines are made when it can take some, at most 64 KiB of them.
+//! A feed of a history's rows, without its socket. A peer sends one line, `from N` or `from end`,
+//! and is sent the line of each stored row from that one on. The feed is a cursor and not an
+//! outbox: lines are made when the peer can take some, at most 64 KiB at once.
 #![tactic(auto)]
 
 mod chapter_starts;

@@ -3,9 +3,9 @@
 /// How far a peer has come.
 #[derive(Clone, Copy, Debug, PartialEq, Eq)]
 pub enum Stage {
-    /// Its first line isn't whole yet.
+    /// Its first line isn't complete yet.
     Asks,
-    /// It is fed; the row of this number is next.
+    /// It is fed. The row of this number is next.
     Follows(u64),
     /// It is fed nothing more.
     Over,

@@ -1,4 +1,4 @@
-//! What no clause says: that a peer is fed, if there is memory. Lines are those of PAGE.
+//! What no clause says: that a peer is fed, if there is memory. Lines are those of docs/PAGE.md.
 
 use forecourt_engines::known_site;
 use row_feed::{ChapterStarts, Feed};

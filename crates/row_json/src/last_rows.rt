@@ -54,7 +54,7 @@ impl Model for LastRows {
 }
 
 impl LastRows {
-    /// None yet: the next row of the history is its first one.
+    /// Returns no rows yet: the next row of the history is its first one.
     pub fn open(alloc: Global, config: &SiteConfig) -> Result<LastRows, NoMemory>
         ensures { IfOk result (λ last. last
             ≡ record { site = opening config.now; lines = []; next = 0 }) }
@@ -69,8 +69,8 @@ impl LastRows {
         })
     }
 
-    /// Reads the next kept row, with its time. The first line may make way. After `NoMemory` no
-    /// further row can be read.
+    /// Reads the next kept row, with its time. The oldest line may be dropped for it. After
+    /// `NoMemory` no further row can be read.
     pub fn read(&mut self, time: Option<Stamp>, row: &Row) -> Result<(), NoMemory>
         requires { self.old.next < GREATEST_ROW }
         ensures read { OnOk result (self.new ≡ with_row time row.now self.old) }
@@ -84,7 +84,7 @@ impl LastRows {
         Ok(())
     }
 
-    /// The number of the next row.
+    /// Returns the number of the next row.
     pub fn next(&self) -> u64
         ensures next { result ≡ self.now.next }
         ensures few { length self.now.lines ≤ self.now.next }
@@ -94,14 +94,14 @@ impl LastRows {
         self.next
     }
 
-    /// The number of the row of the first line; that of the next row where there is no line.
+    /// Returns the number of the row of the first line; that of the next row if there is no line.
     pub fn first(&self) -> u64
         ensures { result ≡ first_of self.now }
     {
         self.next - self.lines.len() as u64
     }
 
-    /// Appends the line of the row of this number, if it is one of the last ones, and says whether
+    /// Appends the line of the row of this number, if it is one of the last rows. Returns whether
     /// it is.
     pub fn put_line(&self, number: u64, text: &mut Vec<u8>) -> Result<bool, NoMemory>
         ensures there { IfOk result (λ there. there ≡ is_some (line_at self.now number)) }

@@ -1,7 +1,7 @@
-//! A kept row of a history as a JSON object, a line for each: who asked what, the reply, the row's
-//! number and time, and what the site shows after it: the state of the point that it names, the
-//! sale that it makes or changes. A `RowReader` finds these, row after row, at a site of its own;
-//! `LastRows` keeps the last ones in memory.
+//! A kept row of a history as a JSON object, one line for each row: who asked what, the reply, the
+//! row's number and time, and what the site shows after it: the state of the point that the row
+//! names, and the sale that it makes or changes. A `RowReader` finds these, row after row, with a
+//! site of its own. `LastRows` keeps the last rows in memory.
 #![tactic(auto)]
 
 mod last_rows;

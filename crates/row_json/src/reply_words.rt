@@ -8,8 +8,8 @@ use site_base::{Answer, Preset, Refusal, Reply};
 use site_json::state_word;
 use std::alloc::{AllocError, Global};
 
-/// A reply: the answer's name with what it carries, or the refusal's number and name with what it
-/// names.
+/// Returns a reply in words: the name of an answer with what it carries, or the number and name of
+/// a refusal with what it names.
 pub fn reply_text(alloc: Global, reply: &Reply) -> Result<String, AllocError>
     ensures { IfOk result (λ text. string_bytes text ≡ reply_words reply.now) }
 {

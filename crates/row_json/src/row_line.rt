@@ -9,7 +9,7 @@ use crate::told_row::ToldRow;
 use site_base::NoMemory;
 use std::alloc::Global;
 
-/// A row as a JSON object, with a line feed.
+/// Returns a row as a JSON object, with a line feed.
 pub fn row_line(alloc: Global, told: &ToldRow) -> Result<String, NoMemory>
     ensures { IfOk result (λ line. string_bytes line ≡ row_line told.now) }
 {

@@ -13,7 +13,7 @@ use site_book::NamedSale;
 use site_json::{state_word, status_word, time_if};
 use std::alloc::{AllocError, Global};
 
-/// A row as a JSON value.
+/// Returns a row as a JSON value.
 pub fn row_value(alloc: Global, told: &ToldRow) -> Result<Value, AllocError>
     ensures { IfOk result (λ value. view value ≡ row_data told.now) }
 {

@@ -19,8 +19,8 @@ use stamps::Stamp;
 use std::alloc::Global;
 use std::marker::Model;
 
-/// Reads the kept rows of a history, one after another. It holds a site of its own, which takes the
-/// rows' events. Contracts see that site.
+/// Reads the kept rows of a history, one after another, with a site of its own that takes the rows'
+/// events. Contracts see that site.
 #[derive(Drop)]
 pub struct RowReader {
     site: Site,
@@ -47,7 +47,7 @@ impl Model for RowReader {
 }
 
 impl RowReader {
-    /// A reader at the opening of this site.
+    /// Returns a reader at the opening of this site.
     pub fn open(alloc: Global, config: &SiteConfig) -> Result<RowReader, NoMemory>
         ensures { IfOk result (λ reader. reader ≡ opening config.now) }
     {
@@ -55,7 +55,7 @@ impl RowReader {
         Ok(RowReader { site })
     }
 
-    /// Takes the next row. After `NoMemory` it isn't taken.
+    /// Takes the next row. After `NoMemory` the row isn't taken.
     pub fn pass(&mut self, row: &Row) -> Result<(), NoMemory>
         ensures site { OnOk result
             (self.new ≡ site_after self.old row.now.actor row.now.event) }
@@ -66,7 +66,7 @@ impl RowReader {
         Ok(())
     }
 
-    /// The line of the row that was taken last, with this number and time.
+    /// Returns the line of the row that was taken last, with this number and time.
     pub fn line(
         &self,
         alloc: Global,

@@ -1,6 +1,6 @@
 //! The sizes of the last rows, each written once.
 
-/// So many rows of a history are in memory at most: the last ones.
+/// The most rows of a history in memory, which are the last ones.
 pub const LAST_ROWS: usize = 16_384;
 
 /// The greatest number that a row may have.

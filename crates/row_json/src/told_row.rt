@@ -9,12 +9,12 @@ use stamps::Stamp;
 pub struct ToldRow {
     /// Its number: the kept rows of a history count from 0.
     pub number: u64,
-    /// Its time, if one is told.
+    /// Its time, if the history gives one.
     pub time: Option<Stamp>,
     /// The row.
     pub row: Row,
     /// The state of the point that it names, if the site has that point.
     pub state: Option<PointState>,
-    /// The sale that it makes or changes, as it stands then.
+    /// The sale that it makes or changes, in its state after the row.
     pub sale: Option<NamedSale>,
 }

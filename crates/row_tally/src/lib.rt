@@ -1,9 +1,9 @@
-//! What rows tell that their site doesn't, one row after another: how many were refused, by the
-//! refusals' numbers, which runs of readings that a meter refused are open, how far readings jumped
-//! where a meter was replaced, and when points called, sales were sold and shifts were opened and
-//! closed. A running station forgets its rows, and keeps this of them. What is told of rows is
-//! written in `specs/Tally.antt`, a run of refused readings in `specs/Runs.antt`, a jump in
-//! `specs/Jumps.antt`, the moments in `specs/Moments.antt`.
+//! What rows tell that their site doesn't, read row after row: how many rows were refused, by the
+//! number of the refusal; which runs of refused readings are open; how far readings jumped when a
+//! meter was replaced; and when points called, sales were sold and shifts were opened and closed. A
+//! running station forgets its rows, and keeps this of them. The tally is defined in
+//! `specs/Tally.antt`, a run of refused readings in `specs/Runs.antt`, a jump in
+//! `specs/Jumps.antt`, the times in `specs/Moments.antt`.
 #![tactic(auto)]
 
 mod meter_jumps;

@@ -1,17 +1,17 @@
-//! The jumps of a nozzle's readings, as its meter is replaced.
+//! The jumps of a nozzle's readings when its meter is replaced.
 
 ghost use Rattle.std.specs.Prelude.{◌≡◌};
 ghost use Rattle.row_tally.specs.Jumps.{no_jumps, with_jump};
 
 use site_base::Millilitres;
 
-/// How often a nozzle's meter was replaced, and how far its readings jumped thereby: each sum in
-/// millilitres, counted up to 2^64 - 1.
+/// How often a nozzle's meter was replaced, and how far its readings jumped then. Each sum is in
+/// millilitres, and is counted up to 2^64 - 1.
 #[derive(Clone, Copy, Debug, PartialEq, Eq)]
 pub struct MeterJumps {
     /// How often.
     pub replaced: u64,
-    /// By how much new meters began above what the old ones read last.
+    /// By how much new meters began above the last readings of the old ones.
     pub raised: u64,
     /// By how much they began below it.
     pub lowered: u64,

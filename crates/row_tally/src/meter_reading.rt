@@ -1,4 +1,4 @@
-//! The readings that events tell.
+//! The readings in events.
 
 ghost use Rattle.std.specs.Prelude.{◌≡◌};
 ghost use Rattle.row_tally.specs.Readings.{reading_told, replaced_told};
@@ -17,7 +17,7 @@ pub struct MeterReading {
 }
 
 impl MeterReading {
-    /// The reading that an event reports or notes, if it does.
+    /// Returns the reading that an event reports or notes, if it has one.
     pub fn told_by(event: &Event) -> Option<MeterReading>
         ensures { result ≡ reading_told event.now }
     {

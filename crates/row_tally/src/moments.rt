@@ -1,4 +1,4 @@
-//! The moments that rows tell.
+//! The times that rows tell.
 
 ghost use Rattle.std.specs.Prelude.{◌≡◌, ◌++◌, OnOk};
 ghost use Rattle.site_base.specs.Events.{point_named};
@@ -13,8 +13,8 @@ use stamps::Stamp;
 use std::alloc::Global;
 use std::marker::Model;
 
-/// When each point called last, when what isn't cleared yet was sold, and when shifts were opened
-/// and closed.
+/// When each point called last, when the transactions that aren't cleared yet were sold, and when
+/// shifts were opened and closed.
 #[derive(Drop)]
 pub struct Moments {
     shifts: TimesReader,
@@ -55,21 +55,22 @@ impl Moments {
         self.shifts.read(row, time)
     }
 
-    /// When shifts were opened and closed.
+    /// Returns when shifts were opened and closed.
     pub fn shifts(&self) -> &TimesReader
         ensures { result.now ≡ self.now.shifts }
     {
         &self.shifts
     }
 
-    /// The time at which a point called last. None if it never did, or the time isn't known.
+    /// Returns the time at which a point called last. None if it never did, or if the time isn't
+    /// known.
     pub fn last_call(&self, p: FpNo) -> Option<Stamp>
         ensures { result ≡ last_call p self.now }
     {
         self.calls[p.cell()]
     }
 
-    /// The transactions that aren't cleared yet, in the order in which they were sold.
+    /// Returns the transactions that aren't cleared yet, in the order in which they were sold.
     pub fn sold(&self) -> &[SoldAt]
         ensures { result.now ≡ self.now.sold }
     {

@@ -28,7 +28,7 @@ impl Model for OpenRuns {
 }
 
 impl OpenRuns {
-    /// No run. It takes no memory.
+    /// Returns no runs. It takes no memory.
     pub fn new(alloc: Global) -> OpenRuns
         ensures { result ≡ [] }
     {
@@ -37,7 +37,8 @@ impl OpenRuns {
         }
     }
 
-    /// A reading was accepted by this row: the open run of its nozzle, if it has one, is settled.
+    /// Notes that this row accepted a reading. The open run of its nozzle, if there is one, is
+    /// settled, and returned.
     pub fn settle(&mut self, row: u64, told: &MeterReading) -> Option<RefusedRun>
         ensures settled { cons_option result []
             ≡ settled_run row told.now.point told.now.nozzle self.old }
@@ -46,7 +47,7 @@ impl OpenRuns {
         take_run(&mut self.runs, row, told)
     }
 
-    /// The same: the run that is settled, if there is one, joins these.
+    /// Does the same as `settle`, and appends the settled run, if there is one, to `settled`.
     pub fn settle_into(
         &mut self,
         settled: &mut Vec<RefusedRun>,
@@ -61,8 +62,8 @@ impl OpenRuns {
         settle(settled, &mut self.runs, row, told)
     }
 
-    /// A reading was refused, where this was expected. If its meter refused it, it stands in the
-    /// run of its nozzle.
+    /// Notes a refused reading. `expected` is the reading that the site has. If the meter was the
+    /// reason of the refusal, the reading joins the run of its nozzle, or begins one.
     pub fn refuse(
         &mut self,
         place: &RowPlace,
@@ -81,7 +82,7 @@ impl OpenRuns {
         }
     }
 
-    /// The runs.
+    /// Returns the runs.
     pub fn as_slice(&self) -> &[RefusedRun]
         ensures { result.now ≡ self.now }
     {

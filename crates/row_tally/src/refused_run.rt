@@ -7,34 +7,34 @@ use crate::meter_reading::MeterReading;
 use site_base::{FpNo, Millilitres, NozzleNo, Refusal};
 use stamps::Stamp;
 
-/// Where a row stands in its day or history.
+/// The place of a row in its day or history.
 #[derive(Clone, Copy, Debug, PartialEq, Eq)]
 pub struct RowPlace {
     /// Its number, counted from 0.
     pub row: u64,
-    /// Its time, if that is known.
+    /// Its time, if it is known.
     pub at: Option<Stamp>,
 }
 
-/// Readings of one nozzle that its meter refused, one after another: none of the nozzle was
-/// accepted between them.
+/// Readings of one nozzle that were refused because of its meter, one after another. No reading of
+/// the nozzle was accepted between them.
 #[derive(Clone, Copy, Debug, PartialEq, Eq)]
 pub struct RefusedRun {
-    /// The row of the first one.
+    /// The row of the first reading.
     pub first: RowPlace,
-    /// The number of the last one's row.
+    /// The number of the row of the last reading.
     pub last: u64,
     /// The fuelling point.
     pub point: FpNo,
     /// Its nozzle.
     pub nozzle: NozzleNo,
-    /// Why the last one was refused.
+    /// Why the last reading was refused.
     pub refusal: Refusal,
-    /// What the meter reads.
+    /// The reading that the site has of the meter.
     pub expected: Millilitres,
-    /// The last one.
+    /// The last reading that was refused.
     pub reported: Millilitres,
-    /// The number of the row whose reading was accepted then. None of an open run.
+    /// The number of the row that accepted the next reading; None for an open run.
     pub settled: Option<u64>,
 }
 

@@ -24,7 +24,7 @@ use stamps::Stamp;
 use std::alloc::Global;
 use std::marker::Model;
 
-/// So many refusals there are: their numbers are 1 to this one.
+/// The number of refusals. Their numbers are 1 to this one.
 pub const REFUSAL_CELLS: usize = 25;
 
 /// What rows tell that their site doesn't.
@@ -61,7 +61,7 @@ impl Model for RowTally {
 }
 
 impl RowTally {
-    /// A tally at the opening of this site, which has read no row.
+    /// Returns a tally at the opening of this site, which has read no row.
     pub fn open(alloc: Global, config: &SiteConfig) -> Result<RowTally, NoMemory>
         ensures { IfOk result (λ tally. tally ≡ no_rows config.now) }
     {
@@ -94,14 +94,15 @@ impl RowTally {
         Ok(())
     }
 
-    /// So many rows were read, counted up to 2^64 - 1.
+    /// Returns the number of rows that were read, counted up to 2^64 - 1.
     pub fn rows(&self) -> u64
         ensures { result ≡ self.now.rows }
     {
         self.rows
     }
 
-    /// How many rows were refused with the refusal of this number, counted up to 2^64 - 1.
+    /// Returns the number of rows that were refused with the refusal of this number, counted up to
+    /// 2^64 - 1.
     pub fn refused_as(&self, number: u8) -> u64
         ensures { result ≡ refused_as number self.now }
     {
@@ -111,23 +112,24 @@ impl RowTally {
         }
     }
 
-    /// The open gaps: the runs of readings that a meter refused and that no accepted reading of its
-    /// nozzle has settled yet, in the order in which they began.
+    /// Returns the open gaps: the runs of refused readings that no accepted reading of the nozzle
+    /// has settled yet, in the order in which they began.
     pub fn open_runs(&self) -> &[RefusedRun]
         ensures { result.now ≡ self.now.runs }
     {
         self.runs.as_slice()
     }
 
-    /// How far the readings of each nozzle that a site can have jumped as its meter was replaced:
-    /// in the order of points, and of their nozzles.
+    /// Returns the jumps of each nozzle that a site can have, in the order of points, and of their
+    /// nozzles: how far its readings jumped when its meter was replaced.
     pub fn jumps(&self) -> &[MeterJumps]
         ensures { result.now ≡ self.now.jumps }
     {
         &self.jumps
     }
 
-    /// When points called, what isn't cleared yet was sold, and shifts were opened and closed.
+    /// Returns when points called, when the transactions that aren't cleared yet were sold, and
+    /// when shifts were opened and closed.
     pub fn moments(&self) -> &Moments
         ensures { result.now ≡ self.now.moments }
     {

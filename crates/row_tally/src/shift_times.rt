@@ -10,7 +10,7 @@ use stamps::Stamp;
 use std::alloc::Global;
 use std::marker::Model;
 
-/// When a shift was opened and closed, where that is known.
+/// When a shift was opened and closed, if that is known.
 #[derive(Clone, Copy, Debug, PartialEq, Eq)]
 pub struct ShiftTimes {
     /// The time of its first row.
@@ -19,7 +19,7 @@ pub struct ShiftTimes {
     pub closed: Option<Stamp>,
 }
 
-/// Reads when shifts were opened and closed from the rows of a history, one after another.
+/// Reads from the rows of a history, one after another, when shifts were opened and closed.
 #[derive(Drop)]
 pub struct TimesReader {
     /// The shifts that are closed, from shift 1 on.
@@ -37,7 +37,7 @@ impl Model for TimesReader {
 }
 
 impl TimesReader {
-    /// A reader at the opening of a history. It takes no memory.
+    /// Returns a reader at the opening of a history. It takes no memory.
     pub fn new(alloc: Global) -> TimesReader
         ensures { result ≡ no_times }
     {
@@ -72,7 +72,8 @@ impl TimesReader {
         self.closed.len() as u64 + 1
     }
 
-    /// When the shift of this number was opened and closed. One that isn't closed is the open one.
+    /// Returns when the shift of this number was opened and closed. A shift that isn't closed is
+    /// the open one.
     pub fn times(&self, number: ShiftNo) -> ShiftTimes
         ensures { result ≡ times_of_shift number self.now }
     {

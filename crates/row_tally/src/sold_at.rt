@@ -13,9 +13,9 @@ pub struct SoldAt {
     pub shift: u64,
     /// Its fuelling point.
     pub point: FpNo,
-    /// Its number there, in that shift.
+    /// Its number at the point, in that shift.
     pub number: Seq,
-    /// The time of the row that sold it, if that is known.
+    /// The time of the row that sold it, if it is known.
     pub at: Option<Stamp>,
 }
 

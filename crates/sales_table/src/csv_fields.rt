@@ -7,8 +7,8 @@ use csv::WriterBuilder;
 use site_base::NoMemory;
 use std::alloc::Global;
 
-/// The line of these fields and these more, with its line feed, as the default writer of the crate
-/// `csv` spells it. The writer is told to write into memory, so what it fails for is memory.
+/// Returns the line of `fields` and then `more`, with its line feed, as the default writer of the
+/// crate `csv` writes it. The writer writes into memory, so the only error is that memory runs out.
 pub fn csv_line<'a>(
     alloc: Global,
     fields: &'a [&'a [u8]],

@@ -11,7 +11,7 @@ use site_base::{NoMemory, ProductEntry};
 use site_book::Draw;
 use std::alloc::Global;
 
-/// The titles of a table of draws, as a line.
+/// Returns the titles of a table of draws, as a line.
 pub fn draw_titles(alloc: Global) -> Result<Vec<u8>, NoMemory>
     ensures { IfOk result (λ line. line.items ≡ row_text default_writer draw_titles) }
 {
@@ -22,7 +22,7 @@ pub fn draw_titles(alloc: Global) -> Result<Vec<u8>, NoMemory>
     )
 }
 
-/// The line of a draw, in the order of the titles.
+/// Returns the line of a draw, in the order of the titles.
 pub fn draw_line(alloc: Global, products: &[ProductEntry], draw: &Draw) -> Result<Vec<u8>, NoMemory>
     ensures { IfOk result (λ line. line.items ≡ draw_line products.now draw.now) }
 {

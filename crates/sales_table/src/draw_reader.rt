@@ -1,25 +1,25 @@
-//! What the rows of a history drew in tests.
+//! Reads what tests drew from the rows of a history.
 
 use site_base::{Answer, Millilitres, NoMemory, Row, SiteConfig};
 use site_book::Draw;
 use site_core::Site;
 use std::alloc::Global;
 
-/// Reads draws from the rows of a history, one after another. It holds a site of its own, which
-/// takes the rows' events.
+/// Reads draws from the rows of a history, one after another, with a site of its own that takes the
+/// rows' events.
 #[derive(Drop)]
 pub struct DrawReader {
     site: Site,
 }
 
 impl DrawReader {
-    /// A reader at the opening of this site.
+    /// Returns a reader at the opening of this site.
     pub fn open(alloc: Global, config: &SiteConfig) -> Result<DrawReader, NoMemory> {
         let site = Site::try_open(alloc, config)?;
         Ok(DrawReader { site })
     }
 
-    /// The draw that the next row made, if it made one.
+    /// Reads the next row, and returns the draw that it made, if it made one.
     pub fn read(&mut self, row: &Row) -> Result<Option<Draw>, NoMemory> {
         self.site.prepare(row.actor, &row.event)?;
         let draw = draw_made(&self.site, row);

@@ -1,10 +1,10 @@
-//! Why a table wasn't written whole.
+//! Why a table wasn't written completely.
 
 use devices::WriteFault;
 use site_base::NoMemory;
 use thiserror::Error;
 
-/// Why a table wasn't written whole.
+/// Why a table wasn't written completely.
 #[derive(Clone, Copy, Debug, PartialEq, Eq, Error)]
 pub enum TableFault {
     /// An allocation failed.

@@ -16,7 +16,7 @@ use site_book::{Draw, NamedSale};
 use stamps::Stamp;
 use std::alloc::{AllocError, Global};
 
-/// A sale as a JSON object.
+/// Returns a sale as a JSON object.
 pub fn sale_object(
     alloc: Global,
     products: &[ProductEntry],
@@ -28,7 +28,7 @@ pub fn sale_object(
     Ok(sale_value(alloc, products, sold)?.to_string(alloc)?)
 }
 
-/// A sale with its times as a JSON object.
+/// Returns a sale with its times as a JSON object.
 pub fn timed_object(
     alloc: Global,
     products: &[ProductEntry],
@@ -41,7 +41,7 @@ pub fn timed_object(
     Ok(timed_value(alloc, products, times, sold)?.to_string(alloc)?)
 }
 
-/// A draw as a JSON object.
+/// Returns a draw as a JSON object.
 pub fn draw_object(
     alloc: Global,
     products: &[ProductEntry],

@@ -1,7 +1,7 @@
-//! The tables of a day: its sales and the draws of its tests, as comma-separated values or as JSON,
-//! each line that of one sale or draw of the book in the order in which they were made. The same of
-//! a history whose book forgets its rows: a `SoldList` and a `DrawReader` read them as they come. A
-//! history's sales have their times, and those cleared in a span of time can be asked for.
+//! The tables of a day: its sales and the draws of its tests, as comma-separated values or as JSON.
+//! Each line is one sale or draw of the book, in the order in which they were made. For a history
+//! whose book forgets its rows, a `SoldList` and a `DrawReader` read the same as the rows come. A
+//! history's sales have their times, and one can ask for those that were cleared in a span of time.
 #![tactic(auto)]
 
 mod csv_fields;

@@ -5,7 +5,7 @@ ghost use Rattle.sales_table.specs.Tables.{name_of};
 
 use site_base::{ProductEntry, ProductNo};
 
-/// The name of the product with this number; of a product that isn't configured, none.
+/// Returns the name of the product with this number; an empty name if the product isn't configured.
 pub fn name_of(products: &[ProductEntry], q: ProductNo) -> &str
     ensures { result.now ≡ name_of q products.now }
 {

@@ -12,7 +12,7 @@ use site_base::{NoMemory, ProductEntry};
 use site_book::NamedSale;
 use std::alloc::Global;
 
-/// The titles of a table of sales, with these more, as a line.
+/// Returns the titles of a table of sales, and then `more`, as a line.
 pub fn sale_titles(alloc: Global, more: &[&[u8]]) -> Result<Vec<u8>, NoMemory>
     ensures { IfOk result (λ line. line.items
         ≡ row_text default_writer (sale_titles ++ map (λ f. f.now) more.now)) }
@@ -37,8 +37,8 @@ pub fn sale_titles(alloc: Global, more: &[&[u8]]) -> Result<Vec<u8>, NoMemory>
     )
 }
 
-/// The line of a sale, in the order of the titles, with these fields more. A number that isn't
-/// there is an empty field.
+/// Returns the line of a sale, in the order of the titles, and then the fields `more`. A missing
+/// number is an empty field.
 pub fn sale_line(
     alloc: Global,
     products: &[ProductEntry],

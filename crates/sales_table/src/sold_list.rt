@@ -1,4 +1,4 @@
-//! Which sales the rows of a history made, and when they were cleared.
+//! Which sales the rows of a history made, and when those were cleared.
 
 ghost use Rattle.std.specs.Prelude.{◌≡◌, ◌++◌, [], List, OnErr, OnOk, option_map};
 ghost use Rattle.std.specs.List.{cons_option};
@@ -30,7 +30,7 @@ impl Model for SoldList {
 }
 
 impl SoldList {
-    /// No sales. It takes no memory.
+    /// Returns no sales. It takes no memory.
     pub fn new(alloc: Global) -> SoldList
         ensures { result ≡ [] }
     {
@@ -39,8 +39,8 @@ impl SoldList {
         }
     }
 
-    /// Adds the sale that a row made at this time, if it made one, where this shift was open before
-    /// it.
+    /// Adds the sale that a row made, if it made one, with this time. `shift` is the shift that was
+    /// open before the row.
     pub fn add(&mut self, row: &Row, shift: ShiftNo, time: Option<Stamp>) -> Result<(), NoMemory>
         ensures added { (earlier : List RowFacts) → shift ≡ open_after earlier → OnOk result
             (self.new ≡ self.old ++ cons_option (option_map (just_sold time) (key_sold earlier
@@ -57,9 +57,9 @@ impl SoldList {
         Ok(())
     }
 
-    /// The last sale of this name was cleared at this time. It is sought from the end: at most two
-    /// sales of a point are unpaid, so it was sold not long before. A name that isn't there costs a
-    /// search of the whole list.
+    /// Notes that the last sale of this name was cleared at this time. The search begins at the end
+    /// of the list: at most two sales of a point are unpaid, so the sale was made not long before.
+    /// For a name that isn't there, the whole list is searched.
     pub fn clear(&mut self, name: &SaleName, time: Option<Stamp>)
         ensures { self.new ≡ with_clear_of name.now time self.old }
     {
@@ -73,7 +73,7 @@ impl SoldList {
         }
     }
 
-    /// The sales.
+    /// Returns the sales.
     pub fn as_slice(&self) -> &[TimedSale]
         ensures { result.now ≡ self.now }
     {
@@ -104,7 +104,8 @@ fn sale_made(row: &Row, shift: ShiftNo) -> Option<SaleName>
     })
 }
 
-/// The name of the sale that a row cleared, if it cleared one, where this shift was open before it.
+/// Returns the name of the sale that a row cleared, if it cleared one. `shift` is the shift that
+/// was open before the row.
 pub fn sale_cleared(row: &Row, shift: ShiftNo) -> Option<SaleName>
     ensures { (earlier : List RowFacts) → shift ≡ open_after earlier
         → result ≡ option_map name_of_key (key_cleared earlier row.now) }

@@ -1,4 +1,4 @@
-//! The tables of a history whose rows were read one after another, as whole texts.
+//! The tables of a history whose rows were read one after another, as complete texts.
 
 ghost use Rattle.std.specs.Prelude.{◌≡◌, ◌++◌, IfOk, OnOk};
 ghost use Rattle.site_book.specs.Book.{site_of_book};
@@ -14,8 +14,9 @@ use site_book::{Draw, NamedSale, SiteBook};
 use stamps::TimeSpan;
 use std::alloc::Global;
 
-/// The table of these sales with their times, in this order: a line for each that the book's site
-/// has, as it stands there. With a span, of just those of them that were cleared in it.
+/// Returns the table of these sales with their times, in this order: a line for each sale that the
+/// book's site has, in its present state. With a span it has only the sales that were cleared in
+/// that span.
 pub fn sold_table(
     alloc: Global,
     book: &SiteBook,
@@ -64,7 +65,7 @@ fn find_sale(book: &SiteBook, name: &SaleName) -> Option<NamedSale>
     })
 }
 
-/// The table of these draws, in this order.
+/// Returns the table of these draws, in this order.
 pub fn drawn_table(
     alloc: Global,
     products: &[ProductEntry],

@@ -1,4 +1,4 @@
-//! How a sale stands, in a word.
+//! The status of a sale, as a word.
 
 ghost use Rattle.std.specs.Prelude.{◌≡◌};
 ghost use Rattle.sales_table.specs.Tables.{cleared_in, status_word};
@@ -6,7 +6,7 @@ ghost use Rattle.transaction_buffer.specs.Sales.{status_of, till_of};
 
 use transaction_buffer::Standing;
 
-/// `payable`, `locked` or `cleared`.
+/// Returns `payable`, `locked` or `cleared`.
 pub fn status_word(standing: &Standing) -> &str
     ensures { result.now ≡ status_word (status_of standing.now) }
 {
@@ -17,7 +17,7 @@ pub fn status_word(standing: &Standing) -> &str
     }
 }
 
-/// The number of the till that has locked or cleared the sale.
+/// Returns the number of the till that has locked or cleared the sale.
 pub fn till_of(standing: &Standing) -> Option<u32>
     ensures { result ≡ till_of standing.now }
 {
@@ -28,7 +28,7 @@ pub fn till_of(standing: &Standing) -> Option<u32>
     }
 }
 
-/// The number of the shift in which the sale was cleared.
+/// Returns the number of the shift in which the sale was cleared.
 pub fn cleared_in(standing: &Standing) -> Option<u32>
     ensures { result ≡ cleared_in standing.now }
 {

@@ -1,4 +1,4 @@
-//! The tables of a book, written whole.
+//! Writes the tables of a book.
 
 ghost use Rattle.std.specs.Prelude.{◌≡◌, [], ◌++◌, IfOk, OnOk, codes, string_bytes};
 ghost use Rattle.std.specs.Io.KnownBytes.{Appends};
@@ -20,11 +20,11 @@ use site_book::{Draw, NamedSale, SiteBook};
 use std::alloc::Global;
 use std::io::Write;
 
-/// Writes the table of a book's sales: a line for each sale of the site in the order in which they
-/// were sold, each as it stands at the end of the rows. It is written in pieces, so memory doesn't
-/// grow with the sales. A call of the writer that is interrupted takes one of the turns. Fails with
-/// `NoMemory`, or as `write_whole` does; a front of the table is written then, which may be empty.
-/// The book has forgotten no row.
+/// Writes the table of a book's sales: a line for each sale of the site, in the order in which they
+/// were sold, and in its state at the end of the rows. The book has to have all its rows in memory.
+/// The table is written in pieces, so memory doesn't grow with the sales. An interrupted call of
+/// the writer takes one of the turns. Fails with `NoMemory`, or as `write_whole` does; then a
+/// prefix of the table is written, which may be empty.
 pub fn write_sales<W: Write>(
     alloc: Global,
     book: &SiteBook,
@@ -51,9 +51,9 @@ pub fn write_sales<W: Write>(
     Ok(())
 }
 
-/// Writes the table of a book's draws: a line for each draw of a test in the order in which they
-/// were drawn. It is written as the sales are; the rows are replayed as it goes. The book has
-/// forgotten no row.
+/// Writes the table of a book's draws: a line for each draw of a test, in the order in which they
+/// were drawn. It replays the rows, and writes as `write_sales` does. The book has to have all its
+/// rows in memory.
 pub fn write_draws<W: Write>(
     alloc: Global,
     book: &SiteBook,

@@ -13,7 +13,7 @@ pub struct SaleName {
     pub shift: ShiftNo,
     /// Its fuelling point.
     pub point: FpNo,
-    /// Its number there in that shift.
+    /// Its number at the point, in that shift.
     pub number: Seq,
 }
 
@@ -24,7 +24,7 @@ pub struct TimedSale {
     pub name: SaleName,
     /// When it was sold, if that is known.
     pub sold_at: Option<Stamp>,
-    /// When it was cleared, if it was, and that is known.
+    /// When it was cleared, if it was and the time is known.
     pub cleared_at: Option<Stamp>,
 }
 
@@ -38,7 +38,7 @@ impl TimedSale {
             && self.name.number == name.number
     }
 
-    /// Is it asked for? Without a span each sale is, else one that was cleared in it.
+    /// Is it asked for? Without a span each sale is; with one, a sale that was cleared in it.
     pub fn is_asked(&self, span: &Option<TimeSpan>) -> bool
         ensures { result ≡ is_asked span.now self.now }
     {

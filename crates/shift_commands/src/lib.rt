@@ -1,5 +1,5 @@
-//! The commands that read a history and print of its shifts: `shifts`, their table, and `next`, the
-//! site file with which the next history begins.
+//! The commands that read a history and print about its shifts: `shifts`, their table, and `next`,
+//! the site file with which the next history begins.
 #![tactic(auto)]
 
 mod next;

@@ -16,9 +16,8 @@ use site_text::{TextFault, checked_text};
 use std::process::ExitCode;
 use std::rt::Files;
 
-/// Prints the site file with which the history after the one in this folder begins. If something
-/// hinders that history's end, it prints each obstacle on standard error in its place, and ends
-/// with status 1.
+/// Prints the site file with which the history after the one in this folder begins. If this history
+/// can't end yet, prints each obstacle on standard error instead, and ends with status 1.
 pub fn run_next<R: Files + Print + Eprint + AllocGlobal>(rt: &R, folder: &str) -> ExitCode {
     let mut history = match read_folder(rt, folder) {
         Ok(history) => history,

@@ -14,8 +14,8 @@ use site_base::NoMemory;
 use std::process::ExitCode;
 use std::rt::Files;
 
-/// Prints the table of the shifts of the history in this folder: a line for each, from shift 1 to
-/// the open one, as text or as JSON.
+/// Prints the table of the shifts of the history in this folder, from shift 1 to the open one, as
+/// text or as JSON.
 pub fn run_shifts<R: Files + Print + Eprint + AllocGlobal>(
     rt: &R,
     folder: &str,

@@ -14,8 +14,8 @@ use site_base::{GREATEST_SHIFT, NoMemory, ProductNo, Refusal, ShiftNo, TillNo};
 use std::alloc::Global;
 use std::marker::Model;
 
-/// The figures of the closed shifts, which are numbered from 1, and of the open one, which is the
-/// next.
+/// The figures of the closed shifts, which are numbered from 1, and of the open shift, which is the
+/// next one.
 #[derive(Drop)]
 pub struct ShiftBook {
     closed: Vec<ShiftRow>,
@@ -38,7 +38,8 @@ impl Model for ShiftBook {
 }
 
 impl ShiftBook {
-    /// No shift is closed, and shift 1 is open with nothing in it. It takes no memory.
+    /// Returns a book in which no shift is closed, and shift 1 is open with nothing in it. It takes
+    /// no memory.
     pub fn new(alloc: Global) -> Self
         ensures { result.shifts ≡ first_shift }
     {
@@ -48,7 +49,7 @@ impl ShiftBook {
         }
     }
 
-    /// Makes the room that the next close needs. The shifts stay. Where there is no memory, nothing
+    /// Makes the room that the next close needs. The shifts stay. If memory runs out, nothing
     /// changes.
     pub fn reserve(&mut self) -> Result<(), NoMemory>
         ensures shifts { self.new.shifts ≡ self.old.shifts }
@@ -60,8 +61,8 @@ impl ShiftBook {
         Ok(())
     }
 
-    /// Adds a clear by a till to the open shift: of this product, so many millilitres and cents.
-    /// The open shift's sums with it stay in u64.
+    /// Adds a clear by a till to the open shift: this many millilitres and cents of this product.
+    /// The open shift's sums have to fit in u64 with it.
     pub fn note_cleared(&mut self, t: TillNo, q: ProductNo, ml: u64, cents: u64)
         requires { FitsClear t q ml cents self.old.shifts.current }
         ensures shifts { self.new.shifts ≡ after_clear t q ml cents self.old.shifts }
@@ -70,8 +71,8 @@ impl ShiftBook {
         self.current.note_cleared(t, q, ml, cents);
     }
 
-    /// Adds a draw of a test to the open shift: of this product, so many millilitres. The open
-    /// shift's sum with it stays in u64.
+    /// Adds a draw of a test to the open shift: this many millilitres of this product. The open
+    /// shift's sum has to fit in u64 with it.
     pub fn note_drawn(&mut self, q: ProductNo, ml: u64)
         requires { FitsDraw q ml self.old.shifts.current }
         ensures shifts { self.new.shifts ≡ after_draw q ml self.old.shifts }
@@ -80,10 +81,9 @@ impl ShiftBook {
         self.current.note_drawn(q, ml);
     }
 
-    /// Closes the open shift and opens the next, with nothing in it; the answer is the number of
-    /// the shift that was closed. While shift `GREATEST_SHIFT` is open it is refused with
-    /// `ShiftsSpent`, and nothing changes. The room for it is reserved, also where it is refused;
-    /// it takes no memory.
+    /// Closes the open shift and opens the next one, with nothing in it. Returns the number of the
+    /// closed shift. If shift `GREATEST_SHIFT` is open, it is refused with `ShiftsSpent`, and
+    /// nothing changes. Room has to be reserved, even for a refusal; it takes no memory.
     pub fn close(&mut self) -> Result<ShiftNo, Refusal>
         requires { 0 < self.old.room }
         ensures accepted { OnOk result (is_last self.old.shifts ≡ false) }
@@ -100,7 +100,7 @@ impl ShiftBook {
         Ok(self.perform_close())
     }
 
-    /// The close itself, of an open shift that isn't the last one that may be.
+    /// Closes an open shift that isn't the last possible one. Returns its number.
     pub fn perform_close(&mut self) -> ShiftNo
         requires room { 0 < self.old.room }
         requires next { is_last self.old.shifts ≡ false }
@@ -114,7 +114,7 @@ impl ShiftBook {
         number
     }
 
-    /// How many shifts are closed.
+    /// Returns the number of closed shifts.
     pub fn rows(&self) -> u16
         ensures value { result ≡ length self.now.shifts.closed }
         ensures range { result < GREATEST_SHIFT }
@@ -122,7 +122,7 @@ impl ShiftBook {
         self.closed.len() as u16
     }
 
-    /// The number of the open shift.
+    /// Returns the number of the open shift.
     pub fn open(&self) -> ShiftNo
         ensures { result ≡ open_number self.now.shifts }
     {
@@ -132,7 +132,7 @@ impl ShiftBook {
         }
     }
 
-    /// The figures of shift n, the open one's too. None for shifts to come.
+    /// Returns the figures of shift n, also of the open one; None for a shift to come.
     pub fn row(&self, n: ShiftNo) -> Option<ShiftRow>
         ensures { result ≡ figures_of n self.now.shifts }
     {
@@ -146,8 +146,7 @@ impl ShiftBook {
         }
     }
 
-    /// The millilitres that tests drew of a product in all shifts, summed over the shifts. They fit
-    /// in 64 bits.
+    /// Sums the millilitres that tests drew of a product over all shifts. They fit in 64 bits.
     pub fn drawn_volume(&self, q: ProductNo) -> u64
         requires { drawn_in_all q self.now.shifts < 2 ^ 64 }
         ensures { result ≡ drawn_in_all q self.now.shifts }

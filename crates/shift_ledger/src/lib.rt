@@ -1,6 +1,5 @@
-//! The figures of a site's shifts: per till the clears and their cents, per product the millilitres
-//! cleared, their cents, and the millilitres drawn by tests, of each closed shift and of the open
-//! one.
+//! The figures of a site's shifts, closed and open: for each till the clears and their cents; for
+//! each product the millilitres cleared, their cents, and the millilitres drawn by tests.
 #![tactic(auto)]
 
 mod book;

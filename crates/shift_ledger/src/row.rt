@@ -10,18 +10,18 @@ use site_base::{PRODUCT_CELLS, ProductNo, TILL_CELLS, TillNo};
 /// them.
 #[derive(Clone, Copy, Debug, PartialEq, Eq)]
 pub struct ShiftRow {
-    /// Of each till, from 1 on: how many transactions it cleared, and their cents.
+    /// For each till, from 1 on: the number of transactions that it cleared, and their cents.
     pub tills: [(u64, u64); TILL_CELLS],
-    /// Of each product, from 1 on: the millilitres that were cleared.
+    /// For each product, from 1 on: the millilitres that were cleared.
     pub products: [u64; PRODUCT_CELLS],
-    /// Of each product, from 1 on: the cents of what was cleared.
+    /// For each product, from 1 on: the cents of what was cleared.
     pub product_cents: [u64; PRODUCT_CELLS],
-    /// Of each product, from 1 on: the millilitres that tests drew.
+    /// For each product, from 1 on: the millilitres that tests drew.
     pub adjusted: [u64; PRODUCT_CELLS],
 }
 
 impl ShiftRow {
-    /// A shift in which nothing was cleared or drawn.
+    /// Returns a shift in which nothing was cleared or drawn.
     pub fn empty() -> Self
         ensures { result ≡ empty_figures }
     {
@@ -33,8 +33,8 @@ impl ShiftRow {
         }
     }
 
-    /// Adds one clear by a till: of this product, so many millilitres and cents. The sums stay in
-    /// u64.
+    /// Adds one clear by a till: this many millilitres and cents of this product. The sums have to
+    /// fit in u64.
     pub fn note_cleared(&mut self, t: TillNo, q: ProductNo, ml: u64, cents: u64)
         requires { FitsClear t q ml cents self.old }
         ensures { self.new ≡ with_clear t q ml cents self.old }
@@ -47,7 +47,7 @@ impl ShiftRow {
         self.product_cents[product] += cents;
     }
 
-    /// Adds one draw of a test: of this product, so many millilitres. The sum stays in u64.
+    /// Adds one draw of a test: this many millilitres of this product. The sum has to fit in u64.
     pub fn note_drawn(&mut self, q: ProductNo, ml: u64)
         requires { FitsDraw q ml self.old }
         ensures { self.new ≡ with_draw q ml self.old }
@@ -55,7 +55,7 @@ impl ShiftRow {
         self.adjusted[q.cell()] += ml;
     }
 
-    /// The millilitres that tests drew of a product.
+    /// Returns the millilitres that tests drew of a product.
     pub fn drawn_volume(&self, q: ProductNo) -> u64
         ensures { result ≡ adjusted_figure q self.now }
     {

@@ -1,10 +1,10 @@
-//! The forms in which the table is told.
+//! The forms of the table.
 
-/// The form in which the table of shifts is told.
+/// The form of the table of shifts.
 #[derive(Clone, Copy, Debug, PartialEq, Eq)]
 pub enum Form {
     /// A line of words for each shift.
     Text,
-    /// JSON: an object for each shift, one a line.
+    /// JSON: an object for each shift, one on each line.
     Json,
 }

@@ -17,10 +17,10 @@ use site_base::{NoMemory, ProductEntry, ShiftNo, TILL_CELLS, TillNo};
 use site_json::{shift_product_values, sum_value, time_if};
 use std::alloc::{AllocError, Global};
 
-/// A shift as a JSON object: its number, its times and whether it is open, what all tills cleared
-/// in it, of each of these products the millilitres that were cleared, their cents, and the
-/// millilitres that tests drew, and each till that cleared anything with its clears and their
-/// cents.
+/// Returns a shift as a JSON object. It has the shift's number, its times, whether it is open, and
+/// what all tills cleared in it. For each of these products it has the millilitres that were
+/// cleared, their cents, and the millilitres that tests drew; for each till that cleared anything,
+/// its clears and their cents.
 pub fn shift_object(
     alloc: Global,
     products: &[ProductEntry],

@@ -1,5 +1,5 @@
-//! The table of a history's shifts: a line for each, as text or as JSON. Of each shift it has when
-//! it was opened and closed, what all tills cleared, and of each product the millilitres that were
+//! The table of a history's shifts: a line for each, as text or as JSON. For each shift it has when
+//! it was opened and closed, what all tills cleared, and for each product the millilitres that were
 //! cleared and those that tests drew.
 #![tactic(auto)]
 

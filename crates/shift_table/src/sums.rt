@@ -7,8 +7,8 @@ ghost use Rattle.shift_table.specs.ShiftSums.{all_cents, all_clears};
 use shift_ledger::ShiftRow;
 use site_base::ProductNo;
 
-/// How many transactions these tills cleared, each with its clears and their cents. A sum of 64-bit
-/// figures may be above 64 bits.
+/// Returns how many transactions these tills cleared. Each till has its number of clears and their
+/// cents. The sum of 64-bit figures may need more than 64 bits.
 pub fn count_clears(tills: &[(u64, u64)]) -> u128
     ensures { result ≡ all_clears tills.now }
 {
@@ -19,7 +19,7 @@ pub fn count_clears(tills: &[(u64, u64)]) -> u128
     clears
 }
 
-/// Their cents.
+/// Returns the cents of what these tills cleared.
 pub fn sum_cents(tills: &[(u64, u64)]) -> u128
     ensures { result ≡ all_cents tills.now }
 {
@@ -30,7 +30,7 @@ pub fn sum_cents(tills: &[(u64, u64)]) -> u128
     cents
 }
 
-/// The millilitres of a product that were cleared in a shift.
+/// Returns the millilitres of a product that were cleared in a shift.
 pub fn cleared_volume(row: &ShiftRow, q: ProductNo) -> u64
     ensures { result ≡ product_figure q row.now }
 {

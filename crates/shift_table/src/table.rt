@@ -17,11 +17,11 @@ use site_base::{NoMemory, ProductEntry, ShiftNo};
 use site_book::SiteBook;
 use std::alloc::Global;
 
-/// So many shifts `shifts_from` tells at most.
+/// The most shifts that `shifts_from` writes.
 pub const SHIFTS_AT_ONCE: u16 = 64;
 
-/// The table of a book's shifts, with the times that were read: a line for each, from shift 1 to
-/// the open one, in order.
+/// Returns the table of a book's shifts, with the times that were read: a line for each shift in
+/// order, from shift 1 to the open one.
 pub fn shifts_text(
     alloc: Global,
     book: &SiteBook,
@@ -34,7 +34,8 @@ pub fn shifts_text(
     lines_from(alloc, book, read, form, first, book.open_shift().get())
 }
 
-/// The lines of this table from this shift on: to the open one, and of at most `SHIFTS_AT_ONCE`.
+/// Returns the lines of this table from this shift on: up to the open one, and at most
+/// `SHIFTS_AT_ONCE`.
 pub fn shifts_from(
     alloc: Global,
     book: &SiteBook,

@@ -10,8 +10,8 @@ use shift_ledger::ShiftRow;
 use site_base::{NoMemory, ProductEntry, ShiftNo};
 use stamps::Stamp;
 
-/// Appends the line of a shift: its number, its times, what all tills cleared in it, and of each of
-/// these products the millilitres that were cleared and those that tests drew.
+/// Appends the line of a shift: its number, its times, what all tills cleared in it, and for each
+/// of these products the millilitres that were cleared and those that tests drew.
 pub fn put_shift_line(
     text: &mut String,
     products: &[ProductEntry],

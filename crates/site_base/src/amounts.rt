@@ -38,7 +38,7 @@ impl Model for Millilitres {
 }
 
 impl Millilitres {
-    /// This many millilitres, if that is in range.
+    /// Returns this many millilitres, if that is in range.
     pub fn new(volume: u64) -> Option<Self>
         ensures valid { IsSome result ↔ (volume ≤ GREATEST_READING) }
         ensures value { IfSome result (λ n. n ≡ volume) }
@@ -50,7 +50,7 @@ impl Millilitres {
         }
     }
 
-    /// The millilitres.
+    /// Returns the millilitres.
     pub fn get(self) -> u64
         ensures value { result ≡ self }
         ensures range { result ≤ GREATEST_READING }
@@ -79,7 +79,7 @@ impl Model for Mills {
 }
 
 impl Mills {
-    /// This price, if it is in range.
+    /// Returns this price, if it is in range.
     pub fn new(price: u32) -> Option<Self>
         ensures valid { IsSome result ↔ ((1 ≤ price) × (price ≤ GREATEST_PRICE)) }
         ensures value { IfSome result (λ n. n ≡ price) }
@@ -91,7 +91,7 @@ impl Mills {
         }
     }
 
-    /// The mills per litre.
+    /// Returns the mills per litre.
     pub fn get(self) -> u32
         ensures value { result ≡ self }
         ensures range { (1 ≤ result) × (result ≤ GREATEST_PRICE) }
@@ -120,7 +120,7 @@ impl Model for Cents {
 }
 
 impl Cents {
-    /// This amount, if it is in range.
+    /// Returns this amount, if it is in range.
     pub fn new(amount: u64) -> Option<Self>
         ensures valid { IsSome result ↔ (amount ≤ GREATEST_CENTS) }
         ensures value { IfSome result (λ n. n ≡ amount) }
@@ -132,7 +132,7 @@ impl Cents {
         }
     }
 
-    /// The cents.
+    /// Returns the cents.
     pub fn get(self) -> u64
         ensures value { result ≡ self }
         ensures range { result ≤ GREATEST_CENTS }
@@ -141,7 +141,8 @@ impl Cents {
     }
 }
 
-/// What a volume costs at a price: millilitres times mills per litre, in cents, rounded half up.
+/// Returns what a volume costs at a price: millilitres times mills per litre, in cents, rounded
+/// half up.
 pub fn amount_of(volume: Millilitres, price: Mills) -> Cents
     ensures { result ≡ amount volume price }
 {
@@ -150,8 +151,8 @@ pub fn amount_of(volume: Millilitres, price: Mills) -> Cents
     }
 }
 
-/// The greatest number of millilitres whose amount at this price isn't above these cents. It may be
-/// above the range of `Millilitres`.
+/// Returns the greatest number of millilitres whose amount at this price isn't above these cents.
+/// It may be above the range of `Millilitres`.
 pub fn greatest_ml(cents: Cents, price: Mills) -> u64
     ensures { IsGreatestVolume cents price result }
 {

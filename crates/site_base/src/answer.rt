@@ -20,8 +20,8 @@ pub enum Answer {
     HungUp,
     /// The nozzle is back in; no fuel has flowed.
     NoSale,
-    /// The fuelling is sold as the transaction `seq`; `growth` is that of this very report, in
-    /// millilitres, 0 where the point went offline.
+    /// The fuelling is sold as the transaction `seq`. `growth` is that of this report alone, in
+    /// millilitres, and 0 if the point went offline.
     Sold { seq: Seq, growth: u64 },
     /// The release is taken back.
     Stopped,
@@ -31,12 +31,12 @@ pub enum Answer {
     Locked,
     /// The transaction is payable again.
     Unlocked,
-    /// The transaction is cleared; these are its cents.
+    /// The transaction is cleared, with these cents.
     Cleared(Cents),
     /// The shift with this number is closed, and the next one is open.
     ShiftClosed(ShiftNo),
-    /// The test is over, and its fuel goes back to the tank; `growth` is that of this very report,
-    /// in millilitres, 0 where the point went offline.
+    /// The test is over, and its fuel goes back to the tank. `growth` is that of this report alone,
+    /// in millilitres, and 0 if the point went offline.
     Drawn { growth: u64 },
     /// A fuelling point, as it was read.
     PointIs(PointView),

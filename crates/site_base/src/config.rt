@@ -48,8 +48,8 @@ pub struct PointEntry {
     pub nozzles: Listing<NozzleEntry>,
 }
 
-/// The configuration of a site, fit by its type: each number in its range, no till, product number,
-/// product name or point number twice, and each nozzle of a product that is there.
+/// The configuration of a site, fit by its type: each number is in its range, no till, product
+/// number, product name or point number is in it twice, and the product of each nozzle is there.
 #[derive(Debug, Drop)]
 pub struct SiteConfig {
     rows: u32,
@@ -81,10 +81,10 @@ impl Model for SiteConfig {
 }
 
 impl SiteConfig {
-    /// The site with at most `rows` rows by calls that look for a full book, these managers,
-    /// products and points. None exactly where a number of rows, products, points or nozzles is out
-    /// of range, a name isn't fit, a till, product number, product name or point number stands
-    /// twice, or a nozzle's product isn't there. It takes no memory.
+    /// Makes the site with at most `rows` rows by calls that check for a full book, and with these
+    /// managers, products and points. Returns None exactly if a number of rows, products, points or
+    /// nozzles is out of range, a name isn't fit, a till, product number, product name or point
+    /// number is given twice, or a nozzle's product isn't there. It takes no memory.
     pub fn try_new(
         rows: u32,
         managers: Vec<TillNo>,
@@ -123,7 +123,7 @@ impl SiteConfig {
         }
     }
 
-    /// The most rows of a book that no memory has forgotten: calls that look for a full book add
+    /// Returns the most rows that a book may have in memory: calls that check for a full book add
     /// no more.
     pub fn rows(&self) -> u32
         ensures value { result ≡ self.now.rows }
@@ -132,7 +132,7 @@ impl SiteConfig {
         self.rows
     }
 
-    /// The tills that are managers, none twice.
+    /// Returns the tills that are managers, none twice.
     pub fn managers(&self) -> &[TillNo]
         ensures value { result.now ≡ self.now.managers }
         ensures fit { none_alike nat_eq self.now.managers ≡ true }
@@ -140,8 +140,8 @@ impl SiteConfig {
         &self.managers
     }
 
-    /// The products, in configured order: 1 to `PRODUCTS`, each with a fit name, none of one number
-    /// or one name with another.
+    /// Returns the products, in configured order: 1 to `PRODUCTS`, each with a fit name, and no two
+    /// with the same number or the same name.
     pub fn products(&self) -> &[ProductEntry]
         ensures value { result.now ≡ self.now.products }
         ensures fit { are_products self.now.products ≡ true }
@@ -149,8 +149,8 @@ impl SiteConfig {
         &self.products
     }
 
-    /// The fuelling points, in configured order: 1 to `POINTS`, none of one number with another,
-    /// each with 1 to `NOZZLES` nozzles of products that are there.
+    /// Returns the fuelling points, in configured order: 1 to `POINTS`, no two with the same
+    /// number, each with 1 to `NOZZLES` nozzles of products that are there.
     pub fn points(&self) -> &[PointEntry]
         ensures value { result.now ≡ self.now.points }
         ensures fit { are_points self.now.products self.now.points ≡ true }
@@ -158,7 +158,7 @@ impl SiteConfig {
         &self.points
     }
 
-    /// A configuration that equals this one.
+    /// Returns a copy of the configuration.
     pub fn copy(&self, alloc: Global) -> Result<SiteConfig, NoMemory>
         ensures { IfOk result (λ c. c ≡ self.now) }
     {

@@ -17,9 +17,9 @@ pub enum Event {
     /// The till signs on.
     SignOn,
     /// The till signs off. Its locked transactions are payable again, and its holds of points that
-    /// are closed, idle or calling end; a hold of any other point outlives it.
+    /// are closed, idle or calling end. A hold of any other point stays.
     SignOff,
-    /// Opens a closed fuelling point: it is idle then.
+    /// Opens a closed fuelling point, which is then idle.
     Open(FpNo),
     /// Closes an idle fuelling point.
     Close(FpNo),
@@ -38,7 +38,7 @@ pub enum Event {
     TestRelease(FpNo),
     /// Suspends the fuelling at a point.
     Suspend(FpNo),
-    /// Lets the suspended fuelling at a point go on.
+    /// Continues the suspended fuelling at a point.
     Resume(FpNo),
     /// Takes back the release of a point, or ends its fuelling, which is suspended until hang up. A
     /// manager may do so whoever holds the point.
@@ -55,29 +55,30 @@ pub enum Event {
     Clear(FpNo, SaleId),
     /// Reads a transaction of a fuelling point; changes nothing.
     ReadTransaction(FpNo, SaleId),
-    /// A manager gives a product this price, in mills per litre. A fuelling under way keeps the
+    /// A manager gives a product this price, in mills per litre. A fuelling in progress keeps the
     /// price that it took.
     SetPrice(ProductNo, u32),
     /// Reads a product; changes nothing.
     ReadProduct(ProductNo),
-    /// A manager closes the open shift; the next one is open then.
+    /// A manager closes the open shift, and the next one is open.
     CloseShift,
     /// Reads the site; changes nothing.
     ReadSite,
     /// The dispenser of the point is reached.
     Online(FpNo),
-    /// The dispenser of the point isn't reached any more. A fuelling under way is over.
+    /// The dispenser of the point isn't reached any more. A fuelling in progress is over.
     Offline(FpNo),
     /// The nozzle of the point is taken out, and its meter reads this.
     Lift(FpNo, NozzleNo, Millilitres),
-    /// Fuel may have flowed by the nozzle of the point, whose meter reads this.
+    /// Fuel may have flowed through the nozzle of the point, whose meter reads this.
     Flow(FpNo, NozzleNo, Millilitres),
-    /// The nozzle of the point is put back, and its meter reads this. A fuelling under way is over.
+    /// The nozzle of the point is put back, and its meter reads this. A fuelling in progress is
+    /// over.
     HangUp(FpNo, NozzleNo, Millilitres),
 }
 
 impl Event {
-    /// The fuelling point that the event names, if it names one.
+    /// Returns the fuelling point that the event names, if it names one.
     pub fn point(&self) -> Option<FpNo>
         ensures { result ≡ point_named self.now }
     {
@@ -109,7 +110,7 @@ impl Event {
         }
     }
 
-    /// The nozzle of that point that the event names, if it names one.
+    /// Returns the nozzle of that point that the event names, if it names one.
     pub fn nozzle(&self) -> Option<NozzleNo>
         ensures { result ≡ nozzle_named self.now }
     {
@@ -122,7 +123,7 @@ impl Event {
         }
     }
 
-    /// The transaction of that point that the event names, if it names one.
+    /// Returns the transaction of that point that the event names, if it names one.
     pub fn sale(&self) -> Option<SaleId>
         ensures { result ≡ sale_named self.now }
     {
@@ -135,7 +136,7 @@ impl Event {
         }
     }
 
-    /// The product that the event names, if it names one.
+    /// Returns the product that the event names, if it names one.
     pub fn product(&self) -> Option<ProductNo>
         ensures { result ≡ product_named self.now }
     {
@@ -146,8 +147,8 @@ impl Event {
         }
     }
 
-    /// The reading of a meter that the event carries, if it carries one. It is one that a meter can
-    /// show.
+    /// Returns the reading of a meter that the event carries, if it carries one. It is one that a
+    /// meter can show.
     pub fn reading(&self) -> Option<Millilitres>
         ensures reading { result ≡ reading_carried self.now }
         ensures range { IfSome (reading_carried self.now) (λ reading. reading ≤ GREATEST_READING) }
@@ -163,7 +164,7 @@ impl Event {
         Some(carried)
     }
 
-    /// The point whose dispenser reports the event; None for what a till asks.
+    /// Returns the point whose dispenser reports the event; None for what a till asks.
     pub fn reported_by(&self) -> Option<FpNo>
         ensures { result ≡ reported_by self.now }
     {
@@ -195,7 +196,7 @@ impl Event {
         )
     }
 
-    /// Is the event for managers alone?
+    /// Is the event only for managers?
     pub fn needs_manager(&self) -> bool
         ensures { result ≡ needs_manager self.now }
     {
@@ -208,7 +209,7 @@ impl Event {
         )
     }
 
-    /// Is the event, once accepted, a change that the dispenser of its point is told of?
+    /// Is the event, once accepted, a change of which the dispenser of its point gets a notice?
     pub fn has_change(&self) -> bool
         ensures { result ≡ has_change self.now }
     {

@@ -1,4 +1,4 @@
-//! What every crate of the site controller speaks of: numbers with their ranges, events, answers,
+//! What every crate of the site controller uses: numbers with their ranges, events, answers,
 //! refusals, and the site's configuration.
 #![tactic(auto)]
 

@@ -1,5 +1,5 @@
 //! How large a site may be. Types, arrays, invariants and definitions take the sizes from here, so
-//! that another site changes them in one place. Every other limit stands beside what it limits.
+//! that another site changes them in one place. Every other limit is beside what it limits.
 
 /// Fuelling points of a site, numbered from 1.
 pub const POINTS: u8 = 64;

@@ -2,8 +2,8 @@
 
 use std::marker::Model;
 
-/// The members of a list, in their order. It is made from a `Vec` and gives it back, both without
-/// memory; contracts see the list, and nothing of the room that it is kept in.
+/// The members of a list, in their order. It is made from a `Vec` and gives that back, both without
+/// memory. Contracts see only the list, and not the room in which it is kept.
 #[derive(Debug, Drop)]
 pub struct Listing<T> {
     members: Vec<T>,
@@ -20,14 +20,14 @@ impl<T> Model for Listing<T> {
 impl<T> Listing<T> {
     ghost use Rattle.std.specs.Prelude.{◌≡◌};
 
-    /// The members, in order.
+    /// Returns the members, in order.
     pub fn as_slice(&self) -> &[T]
         ensures { result.now ≡ self.now }
     {
         &self.members
     }
 
-    /// The members, as a `Vec` again.
+    /// Returns the members, as a `Vec` again.
     pub fn into_vec(self) -> Vec<T>
         ensures { result.items ≡ self }
     {

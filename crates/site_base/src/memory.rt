@@ -1,11 +1,11 @@
-//! Want of memory.
+//! Memory has run out.
 
 use std::alloc::{AllocError, AllocFailed};
 use std::error::Error;
 use std::fmt;
 
-/// An allocation that the call needed failed. It is answered only where that happened in
-/// the call itself.
+/// An allocation that the call needed failed. It is returned only if that happened in the call
+/// itself.
 #[derive(Clone, Copy, Debug, PartialEq, Eq)]
 pub struct NoMemory;
 

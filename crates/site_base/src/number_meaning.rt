@@ -1,5 +1,5 @@
-//! The table of the numbers that the site and the program tell: each with its name and its meaning.
-//! Whoever prints a number's name or meaning reads it here.
+//! The table of the numbers that the site and the program give, each with its name and its meaning.
+//! Everything that prints a number's name or meaning reads it here.
 
 ghost use Rattle.std.specs.Prelude.{◌≡◌, ◌||◌, is_some, true};
 ghost use Rattle.site_base.specs.NumbersTold.{has_meaning, is_refusal, stands_alone};
@@ -7,7 +7,7 @@ ghost use Rattle.site_base.specs.Ranges.{is_between};
 
 use std::fmt;
 
-/// A number that the site or the program tells, its name, and what it means.
+/// A number that the site or the program gives, its name, and what it means.
 #[derive(Clone, Copy, Debug, PartialEq, Eq)]
 pub struct NumberMeaning {
     number: u8,
@@ -16,8 +16,8 @@ pub struct NumberMeaning {
 }
 
 impl NumberMeaning {
-    /// The meaning of a number: a refusal's, 1 to 25, or a fault's, 30, 31, 40 to 44, 50 to 65 and
-    /// 70 to 76; None for a number that nothing tells.
+    /// Returns the meaning of a number: a refusal's, 1 to 25, or a fault's, 30, 31, 40 to 44, 50 to
+    /// 65 and 70 to 76. None for a number that isn't used.
     pub fn of(number: u8) -> Option<NumberMeaning>
         ensures { is_some result ≡ has_meaning number }
     {
@@ -32,8 +32,8 @@ impl NumberMeaning {
         Some(NumberMeaning { number, name, text })
     }
 
-    /// The meaning of a number that stands in place of a reply: why there is no row, why a stream
-    /// ended, or why a message is no request. None for every other number.
+    /// Returns the meaning of a number that comes in place of a reply: why there is no row, why a
+    /// stream ended, or why a message is no request. None for every other number.
     pub fn of_no_reply(number: u8) -> Option<NumberMeaning>
         ensures { is_some result ≡ stands_alone number }
     {
@@ -43,7 +43,7 @@ impl NumberMeaning {
         }
     }
 
-    /// Its name: `LockedByOther`.
+    /// Returns its name, for example `LockedByOther`.
     pub fn name(&self) -> &'static str {
         self.name
     }

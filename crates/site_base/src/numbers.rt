@@ -1,4 +1,4 @@
-//! The numbers by which the parts of a site are called.
+//! The numbers of the parts of a site.
 
 ghost use Rattle.std.specs.Prelude.{◌≡◌, ℕ, ◌+◌, ◌<◌, ◌≤◌, ◌↔◌, IsSome, IfSome};
 
@@ -15,7 +15,7 @@ pub const GREATEST_SHIFT: u16 = 999;
 pub trait Number: Copy {
     ghost number: { Self → ℕ };
 
-    /// The number itself.
+    /// Returns the number itself.
     fn number(self) -> u8
         ensures { result ≡ number self };
 }
@@ -48,7 +48,7 @@ impl Number for FpNo {
 }
 
 impl FpNo {
-    /// The fuelling point with this number, if there can be one.
+    /// Returns the fuelling point with this number, if there can be one.
     pub fn new(number: u8) -> Option<Self>
         ensures valid { IsSome result ↔ ((1 ≤ number) × (number ≤ POINTS)) }
         ensures value { IfSome result (λ n. n ≡ number) }
@@ -60,7 +60,7 @@ impl FpNo {
         }
     }
 
-    /// Its number.
+    /// Returns its number.
     pub fn get(self) -> u8
         ensures value { result ≡ self }
         ensures range { (1 ≤ result) × (result ≤ POINTS) }
@@ -68,7 +68,7 @@ impl FpNo {
         self.number
     }
 
-    /// Its cell in an array that has one for each fuelling point, from number 1 on.
+    /// Returns its cell in an array that has one for each fuelling point, from number 1 on.
     pub fn cell(self) -> usize
         ensures place { result + 1 ≡ self }
         ensures within { result < POINT_CELLS }
@@ -76,7 +76,7 @@ impl FpNo {
         usize::from(self.number) - 1
     }
 
-    /// The fuelling point of a cell.
+    /// Returns the fuelling point of a cell.
     pub fn of_cell(cell: usize) -> Self
         requires { cell < POINT_CELLS }
         ensures { result ≡ cell + 1 }
@@ -107,7 +107,7 @@ impl Model for NozzleNo {
 }
 
 impl NozzleNo {
-    /// The nozzle with this number, if there can be one.
+    /// Returns the nozzle with this number, if there can be one.
     pub fn new(number: u8) -> Option<Self>
         ensures valid { IsSome result ↔ ((1 ≤ number) × (number ≤ NOZZLES)) }
         ensures value { IfSome result (λ n. n ≡ number) }
@@ -119,7 +119,7 @@ impl NozzleNo {
         }
     }
 
-    /// Its number.
+    /// Returns its number.
     pub fn get(self) -> u8
         ensures value { result ≡ self }
         ensures range { (1 ≤ result) × (result ≤ NOZZLES) }
@@ -148,7 +148,7 @@ impl Model for TillNo {
 }
 
 impl TillNo {
-    /// The till with this number, if there can be one.
+    /// Returns the till with this number, if there can be one.
     pub fn new(number: u8) -> Option<Self>
         ensures valid { IsSome result ↔ ((1 ≤ number) × (number ≤ TILLS)) }
         ensures value { IfSome result (λ n. n ≡ number) }
@@ -160,7 +160,7 @@ impl TillNo {
         }
     }
 
-    /// Its number.
+    /// Returns its number.
     pub fn get(self) -> u8
         ensures value { result ≡ self }
         ensures range { (1 ≤ result) × (result ≤ TILLS) }
@@ -168,7 +168,7 @@ impl TillNo {
         self.number
     }
 
-    /// Its cell in an array that has one for each till, from number 1 on.
+    /// Returns its cell in an array that has one for each till, from number 1 on.
     pub fn cell(self) -> usize
         ensures place { result + 1 ≡ self }
         ensures within { result < TILL_CELLS }
@@ -176,7 +176,7 @@ impl TillNo {
         usize::from(self.number) - 1
     }
 
-    /// The till of a cell.
+    /// Returns the till of a cell.
     pub fn of_cell(cell: usize) -> Self
         requires { cell < TILL_CELLS }
         ensures { result ≡ cell + 1 }
@@ -215,7 +215,7 @@ impl Number for ProductNo {
 }
 
 impl ProductNo {
-    /// The product with this number, if there can be one.
+    /// Returns the product with this number, if there can be one.
     pub fn new(number: u8) -> Option<Self>
         ensures valid { IsSome result ↔ ((1 ≤ number) × (number ≤ PRODUCTS)) }
         ensures value { IfSome result (λ n. n ≡ number) }
@@ -227,7 +227,7 @@ impl ProductNo {
         }
     }
 
-    /// Its number.
+    /// Returns its number.
     pub fn get(self) -> u8
         ensures value { result ≡ self }
         ensures range { (1 ≤ result) × (result ≤ PRODUCTS) }
@@ -235,7 +235,7 @@ impl ProductNo {
         self.number
     }
 
-    /// Its cell in an array that has one for each product, from number 1 on.
+    /// Returns its cell in an array that has one for each product, from number 1 on.
     pub fn cell(self) -> usize
         ensures place { result + 1 ≡ self }
         ensures within { result < PRODUCT_CELLS }
@@ -243,7 +243,7 @@ impl ProductNo {
         usize::from(self.number) - 1
     }
 
-    /// The product of a cell.
+    /// Returns the product of a cell.
     pub fn of_cell(cell: usize) -> Self
         requires { cell < PRODUCT_CELLS }
         ensures { result ≡ cell + 1 }
@@ -275,7 +275,7 @@ impl Model for Seq {
 }
 
 impl Seq {
-    /// The sequence number `number`, if it is in range.
+    /// Returns the sequence number `number`, if it is in range.
     pub fn new(number: u16) -> Option<Self>
         ensures valid { IsSome result ↔ ((1 ≤ number) × (number ≤ GREATEST_SEQ)) }
         ensures value { IfSome result (λ n. n ≡ number) }
@@ -287,7 +287,7 @@ impl Seq {
         }
     }
 
-    /// Its number.
+    /// Returns its number.
     pub fn get(self) -> u16
         ensures value { result ≡ self }
         ensures range { (1 ≤ result) × (result ≤ GREATEST_SEQ) }
@@ -319,7 +319,7 @@ impl ShiftNo {
     /// The shift that is open when a site opens.
     pub const FIRST: Self = ShiftNo { number: 1 };
 
-    /// The shift with this number, if there can be one.
+    /// Returns the shift with this number, if there can be one.
     pub fn new(number: u16) -> Option<Self>
         ensures valid { IsSome result ↔ ((1 ≤ number) × (number ≤ GREATEST_SHIFT)) }
         ensures value { IfSome result (λ n. n ≡ number) }
@@ -331,7 +331,7 @@ impl ShiftNo {
         }
     }
 
-    /// Its number.
+    /// Returns its number.
     pub fn get(self) -> u16
         ensures value { result ≡ self }
         ensures range { (1 ≤ result) × (result ≤ GREATEST_SHIFT) }

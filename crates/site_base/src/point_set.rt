@@ -7,8 +7,8 @@ ghost use Rattle.site_base.specs.PointSets.{has_point, IsWith, IsWithout, NoneBe
 use crate::numbers::FpNo;
 use std::marker::Model;
 
-/// A set of fuelling points in one number, in which bit p - 1 says that point p is a member. It
-/// takes no memory, and what is asked of it costs the same for one point and for all.
+/// A set of fuelling points in one number. Bit p - 1 says whether point p is a member. It takes no
+/// memory, and an operation costs the same however many members there are.
 #[derive(Clone, Copy, Debug, PartialEq, Eq)]
 pub struct PointSet {
     bits: u64,
@@ -26,7 +26,7 @@ impl Model for PointSet {
 
 #[tactic(auto, unfolding(crate::specs::PointSets::has_point))]
 impl PointSet {
-    /// No point.
+    /// Returns the empty set.
     pub fn new() -> Self
         ensures number { result ≡ 0 }
         ensures none { (q : ℕ) → has_point q result ≡ false }
@@ -41,14 +41,14 @@ impl PointSet {
         self.bits >> p.cell() & 1 == 1
     }
 
-    /// The point becomes a member. Every other point stays one, or none.
+    /// Adds a point. Nothing changes for any other point.
     pub fn insert(&mut self, p: FpNo)
         ensures { IsWith p self.old self.new }
     {
         self.bits |= 1 << p.cell();
     }
 
-    /// The point is no member any more. Every other point stays one, or none.
+    /// Removes a point. Nothing changes for any other point.
     pub fn remove(&mut self, p: FpNo)
         ensures others { IsWithout p self.old self.new }
         ensures fewer { has_point p self.old ≡ true → self.new < self.old }
@@ -56,7 +56,7 @@ impl PointSet {
         self.bits &= !(1 << p.cell());
     }
 
-    /// The member with the lowest number. None where there is no member.
+    /// Returns the member with the lowest number; None if there is no member.
     pub fn first(self) -> Option<FpNo>
         ensures range { IfSome result (λ p. (1 ≤ p) × (p ≤ POINTS)) }
         ensures member { IfSome result (λ p. has_point p self ≡ true) }

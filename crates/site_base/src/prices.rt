@@ -1,4 +1,4 @@
-//! Today's prices.
+//! The present prices.
 
 ghost use Rattle.std.specs.Prelude.{◌≡◌, true, false, is_some, IfOk};
 ghost use Rattle.site_base.specs.Prices.{prices_of, are_in_range};
@@ -33,7 +33,7 @@ impl Model for PriceBook {
 }
 
 impl PriceBook {
-    /// Each product of the configuration with its configured price.
+    /// Returns each product of the configuration with its configured price.
     pub fn try_new(alloc: Global, config: &SiteConfig) -> Result<Self, NoMemory>
         ensures { IfOk result (λ book. book ≡ prices_of config.now.products) }
     {
@@ -46,7 +46,8 @@ impl PriceBook {
         Ok(PriceBook { rows })
     }
 
-    /// The price of product q. None where it isn't there. Every price is in the range of a price.
+    /// Returns the price of product q; None if there is no such product. Every price is in the
+    /// range of a price.
     pub fn get(&self, q: ProductNo) -> Option<Mills>
         ensures price { result ≡ row_of q self.now }
         ensures range { are_in_range self.now ≡ true }
@@ -57,15 +58,15 @@ impl PriceBook {
         }
     }
 
-    /// Each product with its price, in configured order.
+    /// Returns each product with its price, in configured order.
     pub fn rows(&self) -> &[(ProductNo, Mills)]
         ensures { result.now ≡ self.now }
     {
         &self.rows
     }
 
-    /// Gives product q this price; every other price stays. False where q isn't there, and then
-    /// nothing changes.
+    /// Gives product q this price. Every other price stays. Returns false, and changes nothing, if
+    /// there is no such product.
     pub fn set(&mut self, q: ProductNo, price: Mills) -> bool
         ensures there { result ≡ is_some (row_of q self.old) }
         ensures prices { self.new ≡ with_row q price self.old }

@@ -30,7 +30,7 @@ impl Model for ProductName {
 }
 
 impl ProductName {
-    /// The name of this text. None exactly where it isn't fit. It takes no memory.
+    /// Returns the name of this text. None exactly if it isn't fit. It takes no memory.
     pub fn new(text: String) -> Option<ProductName>
         ensures fit { is_some result ≡ is_name (string_bytes text) }
         ensures value { IfSome result (λ name. name ≡ string_bytes text) }
@@ -42,7 +42,7 @@ impl ProductName {
         }
     }
 
-    /// The name's text.
+    /// Returns the name's text.
     pub fn as_str(&self) -> &str
         ensures value { result.now ≡ self.now }
         ensures fit { is_name self.now ≡ true }
@@ -50,7 +50,7 @@ impl ProductName {
         self.text.as_str()
     }
 
-    /// A name that equals this one.
+    /// Returns a copy of the name.
     pub fn copy(&self, alloc: Global) -> Result<ProductName, NoMemory>
         ensures { IfOk result (λ name. name ≡ self.now) }
     {
@@ -58,7 +58,7 @@ impl ProductName {
         Ok(ProductName { text })
     }
 
-    /// The name's text, as a `String` again.
+    /// Returns the name's text, as a `String` again.
     pub fn into_string(self) -> String
         ensures { string_bytes result ≡ self }
     {

@@ -10,7 +10,7 @@ use crate::numbers::{NozzleNo, TillNo};
 use crate::state::PointState;
 
 /// Why the site refuses an event. The refused event makes a row and changes nothing else. The
-/// variants stand in the order of their numbers, 1 to 25.
+/// variants are in the order of their numbers, 1 to 25.
 #[derive(Clone, Copy, Debug, PartialEq, Eq)]
 pub enum Refusal {
     /// The till isn't signed on.
@@ -39,15 +39,15 @@ pub enum Refusal {
     NotYours,
     /// The fuelling point isn't this dispenser's, or the event isn't this kind of actor's.
     NotYourPoint,
-    /// Another nozzle than this one, which is out.
+    /// Another nozzle is out: this one.
     WrongNozzle(NozzleNo),
     /// The fuelling point has as many unpaid transactions as it may.
     BufferFull,
     /// The fuelling point has no sequence number left in the open shift.
     SequenceSpent,
-    /// The reading isn't the meter's last one, which is expected here.
+    /// The reading isn't the meter's last one. This reading was expected.
     MeterGap(Millilitres),
-    /// The reading is below the meter's last one, which this is.
+    /// The reading is below the meter's last one, which is this.
     MeterBack(Millilitres),
     /// The reading is too far above the meter's last one.
     MeterJump,
@@ -66,7 +66,7 @@ pub enum Refusal {
 }
 
 impl Refusal {
-    /// Its number, 1 to 25.
+    /// Returns its number, 1 to 25.
     pub fn number(&self) -> u8
         ensures { result ≡ refusal_number self.now }
     {
@@ -99,8 +99,8 @@ impl Refusal {
         }
     }
 
-    /// The detail that goes with it: the state, till, nozzle or reading that it names, as a number;
-    /// None where it names none.
+    /// Returns its detail: the state, till, nozzle or reading that it names, as a number; None if
+    /// it names none.
     pub fn detail(&self) -> Option<u64>
         ensures { result ≡ refusal_detail self.now }
     {
@@ -127,7 +127,7 @@ pub enum NoRow {
 }
 
 impl NoRow {
-    /// Its number: 30 or 31.
+    /// Returns its number: 30 or 31.
     pub fn number(self) -> u8
         ensures { result ≡ no_row_number self }
     {

@@ -11,7 +11,8 @@ use crate::refusal::Refusal;
 /// What the site replies to an event: an answer, or why it refuses.
 pub type Reply = Result<Answer, Refusal>;
 
-/// The millilitres that the reply adds to what was metered: the growth of a report that was taken.
+/// Returns the millilitres that the reply adds to what was metered: the growth of an accepted
+/// report.
 pub fn growth_in_reply(reply: &Reply) -> u64
     ensures { result ≡ growth_in_reply reply.now }
 {
@@ -23,7 +24,7 @@ pub fn growth_in_reply(reply: &Reply) -> u64
     }
 }
 
-/// The cents that the reply clears.
+/// Returns the cents that the reply clears.
 pub fn cents_in_reply(reply: &Reply) -> u64
     ensures { result ≡ cents_in_reply reply.now }
 {

@@ -1,4 +1,4 @@
-//! Who is signed on, as a reply tells it.
+//! Who is signed on, by the replies.
 
 ghost use Rattle.std.specs.Prelude.{◌≡◌};
 ghost use Rattle.site_base.specs.SignChanges.{sign_change};
@@ -17,8 +17,8 @@ pub enum SignChange {
     Off(TillNo),
 }
 
-/// What the reply to an actor's event changes of who is signed on: an accepted SignOn signs its
-/// till on, an accepted SignOff signs it off; nothing else does.
+/// Returns what the reply to an actor's event changes of who is signed on: an accepted SignOn signs
+/// its till on, an accepted SignOff signs it off, and nothing else changes it.
 pub fn sign_change(actor: &Actor, event: &Event, reply: &Reply) -> Option<SignChange>
     ensures { result ≡ sign_change actor.now event.now reply.now }
 {

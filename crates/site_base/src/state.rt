@@ -30,7 +30,7 @@ pub enum PointState {
 }
 
 impl PointState {
-    /// Its number, from 1 (inoperative) to 9 (suspended fuelling).
+    /// Returns its number, from 1 (inoperative) to 9 (suspended fuelling).
     pub fn number(self) -> u8
         ensures { result ≡ state_number self }
     {
@@ -50,7 +50,7 @@ pub enum Status {
 }
 
 impl Status {
-    /// Its number, from 1 (cleared) to 3 (locked).
+    /// Returns its number, from 1 (cleared) to 3 (locked).
     pub fn number(self) -> u8
         ensures { result ≡ status_number self }
     {
@@ -58,7 +58,7 @@ impl Status {
     }
 }
 
-/// What a fuelling is limited to. The dispenser is told; the site refuses no report for it.
+/// The limit of a fuelling. It is sent to the dispenser; the site refuses no report because of it.
 #[derive(Clone, Copy, Debug, PartialEq, Eq)]
 pub enum Preset {
     /// No limit.

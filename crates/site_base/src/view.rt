@@ -15,11 +15,11 @@ pub struct PointView {
     pub holder: Option<TillNo>,
     /// A till has terminated the fuelling, which ends at hang up or offline.
     pub ending: bool,
-    /// The fuelling to come or under way is a test: its fuel goes back to the tank.
+    /// The next fuelling, or the one in progress, is a test: its fuel goes back to the tank.
     pub test: bool,
-    /// The preset of the fuelling to come or under way.
+    /// The preset of the next fuelling, or of the one in progress.
     pub preset: Preset,
-    /// The prepaid cents, where the fuelling is prepaid.
+    /// The prepaid cents, if the fuelling is prepaid.
     pub prepaid: Option<u32>,
     /// The price taken for the fuelling, in mills per litre; 0 unless it has started.
     pub price: u32,
@@ -36,7 +36,7 @@ pub struct TransactionView {
     pub volume: Millilitres,
     /// The amount due.
     pub cents: Cents,
-    /// The prepaid cents, where the fuelling was prepaid.
+    /// The prepaid cents, if the fuelling was prepaid.
     pub prepaid: Option<u32>,
     /// Cleared, payable or locked.
     pub status: Status,
@@ -49,11 +49,11 @@ pub struct TransactionView {
 /// A product as ReadProduct shows it. Volumes are in millilitres.
 #[derive(Clone, Copy, Debug, PartialEq, Eq)]
 pub struct ProductView {
-    /// Today's price.
+    /// The present price.
     pub price: Mills,
     /// What its meters have counted since the opening.
     pub metered: u64,
-    /// In fuellings under way.
+    /// In fuellings in progress.
     pub running: u64,
     /// In payable transactions.
     pub payable: u64,

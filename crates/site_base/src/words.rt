@@ -278,7 +278,7 @@ impl fmt::Display for Refusal {
     }
 }
 
-/// Writes a reply in words: the answer's, or the refusal's with its number.
+/// Writes a reply in words: an answer, or a refusal with its number.
 pub fn write_reply<W: fmt::Write>(f: &mut fmt::Formatter<W>, reply: &Reply) -> fmt::Result {
     match reply {
         Ok(answer) => write!(f, "{answer}"),

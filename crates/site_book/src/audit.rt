@@ -1,4 +1,4 @@
-//! The audit: every figure of a history, computed again from the configuration and the rows alone.
+//! The audit: every figure of a history, computed again only from the configuration and the rows.
 
 ghost use Rattle.std.specs.Prelude.{◌≡◌, ◌∷◌, [], IfOk, OnOk};
 ghost use Rattle.written_site.specs.SiteRun.{site_of_rows};
@@ -10,8 +10,9 @@ use site_base::{NoMemory, Row, SiteConfig, Totals};
 use site_core::Site;
 use std::alloc::Global;
 
-/// The figures of these rows, from the configuration and the rows alone: a site is opened, takes
-/// each row's event, and what it then has is counted. It has no other site to read from.
+/// Returns the figures of these rows, computed only from the configuration and the rows: it opens a
+/// site, lets that take each row's event, and counts what it then has. It has no other site to read
+/// from.
 pub fn audit_rows(alloc: Global, config: &SiteConfig, rows: &Rows) -> Result<Totals, NoMemory>
     ensures { IfOk result (λ totals.
         AreFiguresOf (whole_book config.now rows.now.rows) totals) }

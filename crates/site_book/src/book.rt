@@ -33,8 +33,8 @@ use std::marker::Model;
 const FORGOTTEN_ROWS: u64 = 1 << 62;
 
 /// The history of a site, and the site that its rows lead to from the opening site. The rows are a
-/// legal history: each reply is the written step's. The book may forget its first rows: then they
-/// stand in proofs alone, and in the site that goes on from them.
+/// legal history: each reply is that of the written step. The book may forget its first rows. Then
+/// they exist only in proofs, and in the site, which continues from them.
 #[derive(Drop)]
 pub struct SiteBook {
     pub(crate) config: SiteConfig,
@@ -69,7 +69,7 @@ impl Model for SiteBook {
 }
 
 impl SiteBook {
-    /// The book of the opening site of this configuration, without rows.
+    /// Returns the book of the opening site of this configuration, without rows.
     pub fn try_open(alloc: Global, config: &SiteConfig) -> Result<SiteBook, NoMemory>
         ensures { IfOk result (λ b. b ≡ whole_book config.now []) }
     {
@@ -86,10 +86,10 @@ impl SiteBook {
         })
     }
 
-    /// One event of one actor, as one row. `BookFull` comes exactly where the book has as many rows
-    /// in memory as its configuration allows, or more, then `NoMemory` where an allocation fails;
-    /// neither makes a row or changes the site. Else the row has the written step's reply, and is
-    /// answered with its place. A SignOn that is accepted reserves the row of the till's sign-off.
+    /// Adds one event of one actor as one row. The row has the reply of the written step, and is
+    /// returned with its place. `BookFull` comes exactly if the book has as many rows in memory as
+    /// its configuration allows, or more; otherwise `NoMemory` if an allocation fails. Neither
+    /// makes a row or changes the site. An accepted SignOn reserves the row of the till's sign-off.
     #[inline(always)]
     pub fn apply(&mut self, actor: Actor, event: Event) -> Result<Placed, NoRow>
         ensures row { OnOk result (self.new ≡ with_row_of self.old actor event) }
@@ -114,8 +114,8 @@ impl SiteBook {
         })
     }
 
-    /// The same of the actor and the event of this row, which is added with the step's reply in
-    /// place of its own. Where no row is made it stays as it is.
+    /// Does the same for the actor and the event of this row, and fills in the step's reply. If no
+    /// row is made, `row` stays as it is.
     #[inline(always)]
     pub fn answer(&mut self, row: &mut Row) -> Result<(), NoRow>
         ensures added { OnOk result (self.new ≡ with_row_of self.old row.old.actor row.old.event) }
@@ -142,8 +142,8 @@ impl SiteBook {
         Ok(())
     }
 
-    /// Signs off a till, as one row, on a full book too. None where the till isn't signed on, and
-    /// then there is no row. It takes no memory.
+    /// Signs off a till, as one row, on a full book too. Returns None, without a row, if the till
+    /// isn't signed on. It takes no memory.
     pub fn sign_off(&mut self, t: TillNo) -> Option<Placed>
         ensures row { OnSome result (self.new ≡ with_row_of self.old (Actor.Till t) Event.SignOff) }
         ensures reply { IfSome result (λ placed. placed.reply ≡ Ok Answer.Done) }
@@ -161,9 +161,9 @@ impl SiteBook {
         Some(Placed { place, reply })
     }
 
-    /// Forgets the rows that are in memory, so that the book isn't full any more: the site goes on,
-    /// and the sign-off of each till that is signed on has its room. It takes no memory. Of more
-    /// than 2^62 rows it forgets none.
+    /// Forgets the rows that are in memory, so that the book isn't full any more. The site stays,
+    /// and so does the room for the sign-off of each till that is signed on. It takes no memory. If
+    /// there are more than 2^62 rows, it forgets none.
     pub fn forget_rows(&mut self)
         ensures { self.new ≡ with_rows_forgotten self.old }
     {
@@ -175,8 +175,8 @@ impl SiteBook {
         }
     }
 
-    /// How many rows there are, forgotten ones included. Those that aren't forgotten are at most as
-    /// many as the configuration allows, and one more for each till that is signed off beyond. They
+    /// Returns the number of rows, forgotten ones included. In memory are at most as many as the
+    /// configuration allows, and one more for each till that was signed off beyond that. The rows
     /// are a legal history of the configuration's site.
     pub fn len(&self) -> u64
         ensures rows { result ≡ length self.now.rows }
@@ -192,28 +192,28 @@ impl SiteBook {
         self.forgotten + self.rows.len() as u64
     }
 
-    /// How many of all rows a history keeps: each but those of reads.
+    /// Returns how many of all rows a history keeps: each except those of reads.
     pub fn kept_len(&self) -> u64
         ensures { result ≡ length (kept_rows self.now.rows) }
     {
         self.kept
     }
 
-    /// How many rows are in memory: those that aren't forgotten.
+    /// Returns the number of rows in memory: those that aren't forgotten.
     pub fn rows_in_memory(&self) -> usize
         ensures { self.now.forgotten + result ≡ length self.now.rows }
     {
         self.rows.len()
     }
 
-    /// The configuration of the site.
+    /// Returns the configuration of the site.
     pub fn config(&self) -> &SiteConfig
         ensures { result.now ≡ self.now.config }
     {
         &self.config
     }
 
-    /// The row at a place, counted from 0. None of a forgotten row.
+    /// Returns the row at a place, counted from 0; None for a forgotten row.
     pub fn row(&self, place: u64) -> Option<Row>
         ensures kept { self.now.forgotten ≤ place → result ≡ slice_get self.now.rows place }
         ensures forgotten { place < self.now.forgotten → result ≡ None }
@@ -224,7 +224,7 @@ impl SiteBook {
         self.rows.get((place - self.forgotten) as usize)
     }
 
-    /// The point as a read shows it. None where the site has no such point.
+    /// Returns the point as a read shows it; None if the site has no such point.
     pub fn point(&self, p: FpNo) -> Option<PointView>
         ensures { result ≡ view_point (site_of_book self.now) p }
     {

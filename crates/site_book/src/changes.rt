@@ -1,4 +1,4 @@
-//! The rows that dispensers are told of.
+//! The rows of which dispensers get notices.
 
 ghost use Rattle.std.specs.Prelude.{◌≡◌, ◌≤◌, [], ◌∷◌, ◌++◌, filter, IfOk, OnOk};
 ghost use Rattle.site_book.specs.Changes.{changes_from, is_changing};
@@ -33,8 +33,9 @@ type Told = (
 );
 
 impl SiteBook {
-    /// The rows from this place on, counted from 0, that have a change: accepted events that the
-    /// dispenser of their point is told of. No row where the place is behind the last one.
+    /// Returns the rows from this place on, counted from 0, that have a change: accepted events of
+    /// which the dispenser of their point gets a notice. Returns none if the place is after the
+    /// last row.
     pub fn changes_since(&self, alloc: Global, place: u64) -> Result<Vec<Row>, NoMemory>
         requires { self.now.forgotten ≤ place }
         ensures { IfOk result (λ changes. changes.items ≡ changes_from place self.now.rows) }
@@ -63,7 +64,7 @@ fn add_change(changes: &mut Vec<Row>, row: &Row) -> Result<(), NoMemory>
     Ok(())
 }
 
-/// Has the row a change, of which a dispenser may be told?
+/// Does the row have a change, of which a dispenser may get a notice?
 pub fn is_changing(row: &Row) -> bool
     ensures { result ≡ is_changing row.now }
 {

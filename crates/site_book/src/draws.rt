@@ -18,8 +18,8 @@ use std::alloc::Global;
 use std::marker::Model;
 
 /// The draws of a book that are left to read, in the order in which they were drawn. Contracts see
-/// their list. It holds a site of its own, which takes the rows' events one after another, and no
-/// list.
+/// their list. In code there is no list, but a site of its own that takes the rows' events one
+/// after another.
 #[derive(Drop)]
 pub struct Draws<'a> {
     book: &'a SiteBook,
@@ -42,7 +42,8 @@ impl<'a> Model for Draws<'a> {
 }
 
 impl SiteBook {
-    /// All draws of the book in the order in which they were drawn. The book has forgotten no row.
+    /// Returns all draws of the book, in the order in which they were drawn. The book has to have
+    /// all its rows in memory.
     pub fn draws(&self, alloc: Global) -> Result<Draws<'_>, NoMemory>
         requires whole { self.now.forgotten ≡ 0 }
         ensures { IfOk result (λ draws. draws ≡ book_draws self.now) }
@@ -57,7 +58,7 @@ impl SiteBook {
 }
 
 impl<'a> Draws<'a> {
-    /// The next draw. None where none is left. After `NoMemory` none is lost.
+    /// Returns the next draw; None if none is left. After `NoMemory` none is lost.
     pub fn next(&mut self) -> Result<Option<Draw>, NoMemory>
         ensures next { IfOk result (λ draw. IsNext self.old draw self.new) }
         ensures err { OnErr result (self.new ≡ self.old) }

@@ -1,4 +1,4 @@
-//! The figures of the book: as they are kept, and counted again from the rows.
+//! The figures of the book: as the site keeps them, and counted again from the rows.
 
 ghost use Rattle.std.specs.Prelude.{◌≡◌, length, IfOk};
 ghost use Rattle.site_book.specs.Figures.{AddUp, AreFiguresOf, DoFiguresAddUp};
@@ -9,8 +9,8 @@ use site_base::{NoMemory, Totals};
 use std::alloc::Global;
 
 impl SiteBook {
-    /// The figures of the rows, as the site keeps them, one member for each product of the
-    /// configuration. They add up to what the rows tell as metered and as cleared.
+    /// Returns the figures of the rows, as the site keeps them, with one member for each product of
+    /// the configuration. They add up to what the rows tell as metered and as cleared.
     #[tactic(auto, using(crate::proofs::ProductCounts::one_for_each_product))]
     pub fn totals(&self, alloc: Global) -> Result<Totals, NoMemory>
         ensures figures { IfOk result (λ totals. AreFiguresOf self.now totals) }
@@ -22,8 +22,9 @@ impl SiteBook {
         self.site.totals(alloc, self.len())
     }
 
-    /// The figures of the rows, computed again from the configuration and the rows alone, as
-    /// `audit_rows` does; the site that the book keeps isn't read. The book has forgotten no row.
+    /// Returns the figures of the rows, computed again only from the configuration and the rows, as
+    /// `audit_rows` does. The site that the book keeps isn't read. The book has to have all its
+    /// rows in memory.
     #[tactic(auto, using(crate::proofs::ProductCounts::one_for_each_product))]
     pub fn audit(&self, alloc: Global) -> Result<Totals, NoMemory>
         requires whole { self.now.forgotten ≡ 0 }

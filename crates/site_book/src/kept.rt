@@ -6,7 +6,7 @@ ghost use Rattle.site_book.specs.KeptCounts.{kept_after};
 
 use site_base::{Event, Row};
 
-/// Is the row kept? Each but those of reads is, accepted or refused.
+/// Is the row kept? Each row is, accepted or refused, except those of reads.
 pub fn is_kept(row: &Row) -> bool
     ensures { result ≡ is_kept row.now }
 {

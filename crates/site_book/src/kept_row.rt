@@ -1,6 +1,6 @@
-//! A row as a list of rows keeps it. Most of the octets of a plain row are the six figures of a
-//! product that a read may answer with; these stand beside the rows here, and every other answer is
-//! laid out so that its parts fill the octets behind its case.
+//! A row as a list of rows keeps it. Most octets of a plain row are the six figures of a product
+//! that a read may answer with. Here these are in a list beside the rows, and the parts of every
+//! other answer fill the octets after its case.
 
 ghost use Rattle.std.specs.Prelude.{◌≡◌, length, option_to_list, slice_index_or, true};
 ghost use Rattle.site_book.specs.KeptRows.{figures_of, figures_in_reply, is_within, kept_point};
@@ -86,7 +86,7 @@ pub enum KeptReply {
         volume: Millilitres,
         cents: Cents,
     },
-    /// The figures stand at this place, counted from 0.
+    /// The figures are at this place, counted from 0.
     ProductIs {
         price: Mills,
         at: usize,
@@ -113,7 +113,7 @@ impl Model for KeptRow {
 }
 
 impl KeptRow {
-    /// The row, as it is kept where its figures, if it has any, stand at this place.
+    /// Returns the row as it is kept. Its figures, if it has any, are at this place.
     #[inline(always)]
     pub fn new(row: &Row, at: usize) -> KeptRow
         ensures { result ≡ kept_row at row.now }
@@ -125,7 +125,7 @@ impl KeptRow {
         }
     }
 
-    /// The row, whose figures, if it has any, are among these.
+    /// Returns the row. Its figures, if it has any, are among these.
     pub fn row(&self, figures: &[Figures]) -> Row
         requires { is_within (length figures.now) self.now.reply ≡ true }
         ensures { result ≡ row_of_kept figures.now self.now }
@@ -197,7 +197,7 @@ impl SaleMarks {
     }
 }
 
-/// The figures of the product that a reply answers with, if it does.
+/// Returns the figures of the product that a reply answers with, if it does.
 pub fn figures_in_reply(reply: &Reply) -> Option<Figures>
     ensures { option_to_list result ≡ figures_in_reply reply.now }
 {

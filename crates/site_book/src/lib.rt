@@ -1,6 +1,6 @@
 //! The book of a site: its history, row by row, with the site that the rows lead to. An auditor
 //! replays it and counts every figure anew; the counter desk holds it under its lock. A list of
-//! rows keeps each in 64 octets, and the unpaid transactions are kept while the book goes on.
+//! rows keeps each row in 64 octets. The unpaid transactions are kept up to date as the book grows.
 #![tactic(auto)]
 
 mod audit;

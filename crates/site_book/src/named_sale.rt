@@ -10,8 +10,8 @@ pub struct NamedSale {
     pub shift: ShiftNo,
     /// Its fuelling point.
     pub point: FpNo,
-    /// Its number there in that shift.
+    /// Its number at the point, in that shift.
     pub number: Seq,
-    /// The sale: as it was sold, and how it stands.
+    /// The sale: as it was sold, and its present state.
     pub sale: Sale,
 }

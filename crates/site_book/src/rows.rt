@@ -10,8 +10,8 @@ use site_base::{NoMemory, Reply, Row};
 use std::alloc::Global;
 use std::marker::Model;
 
-/// A list of rows, and the room that is reserved for more of them. A row takes 64 octets, and one
-/// that answers with a product's figures 48 more, beside it.
+/// A list of rows, and the room that is reserved for more of them. A row takes 64 octets. A row
+/// that answers with a product's figures takes 48 more, beside it.
 #[derive(Drop)]
 pub struct Rows {
     kept: Vec<KeptRow>,
@@ -36,7 +36,7 @@ impl Model for Rows {
 }
 
 impl Rows {
-    /// No rows. It takes no memory.
+    /// Returns no rows. It takes no memory.
     pub fn new(alloc: Global) -> Self
         ensures rows { result.rows ≡ [] }
     {
@@ -47,7 +47,7 @@ impl Rows {
         }
     }
 
-    /// Drops all rows. The room that was reserved stays, and the memory of all.
+    /// Drops all rows. The reserved room stays, and so does the memory of all rows.
     pub fn clear(&mut self)
         ensures rows { self.new.rows ≡ [] }
         ensures room { self.new.room ≡ self.old.room }
@@ -56,7 +56,7 @@ impl Rows {
         self.figures.clear();
     }
 
-    /// How many rows there are.
+    /// Returns the number of rows.
     pub fn len(&self) -> usize
         ensures { result ≡ length self.now.rows }
     {
@@ -70,7 +70,7 @@ impl Rows {
         self.kept.is_empty()
     }
 
-    /// The row at a place, counted from 0.
+    /// Returns the row at a place, counted from 0.
     pub fn get(&self, place: usize) -> Option<Row>
         ensures { result ≡ slice_get self.now.rows place }
     {
@@ -94,7 +94,7 @@ impl Rows {
         Ok(())
     }
 
-    /// Adds a row at the end, where room is reserved.
+    /// Adds a row at the end. Room for it has to be reserved.
     #[inline(always)]
     pub fn push(&mut self, row: &Row)
         requires { 0 < self.old.room }

@@ -21,7 +21,7 @@ use std::marker::Model;
 use transaction_buffer::Sale;
 
 /// The sales of a book that are left to read, in the order in which they were sold. Contracts see
-/// their list. It holds a place among the rows, and no list.
+/// their list. In code there is no list, but a place among the rows.
 #[derive(Drop)]
 pub struct Sales<'a> {
     book: &'a SiteBook,
@@ -44,16 +44,16 @@ impl<'a> Model for Sales<'a> {
 }
 
 impl SiteBook {
-    /// The sale of this point in this shift with this number: as it was sold, and how it stands.
-    /// None where it isn't there.
+    /// Returns the sale of this point in this shift with this number, as it was sold, with its
+    /// present state; None if there is no such sale.
     pub fn sale(&self, p: FpNo, shift: ShiftNo, number: Seq) -> Option<Sale>
         ensures { result ≡ sale_of (key shift p number) (site_of_book self.now).sales }
     {
         self.site.sale(p, shift, number)
     }
 
-    /// All sales of the site, each once, in the order in which its rows sold them, and as it stands
-    /// at the end of the rows. The book has forgotten no row.
+    /// Returns all sales of the site, each once, in the order in which the rows sold them, and in
+    /// its state at the end of the rows. The book has to have all its rows in memory.
     pub fn sales(&self) -> Sales<'_>
         requires whole { self.now.forgotten ≡ 0 }
         ensures told { result ≡ book_sales self.now }
@@ -120,7 +120,7 @@ impl SiteBook {
 }
 
 impl<'a> Sales<'a> {
-    /// The next sale. None where none is left.
+    /// Returns the next sale; None if none is left.
     pub fn next(&mut self) -> Option<NamedSale>
         ensures { IsNext self.old result self.new }
     {

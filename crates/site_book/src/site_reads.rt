@@ -1,4 +1,4 @@
-//! What a reader of the book may ask of its site beside points, sales and totals.
+//! What a reader of the book may ask of its site, besides points, sales and totals.
 
 ghost use Rattle.std.specs.Prelude.{◌≡◌};
 ghost use Rattle.meters.specs.Nozzles.{last_of};
@@ -18,23 +18,23 @@ impl SiteBook {
         self.site.signed_on(t)
     }
 
-    /// The number of the open shift.
+    /// Returns the number of the open shift.
     pub fn open_shift(&self) -> ShiftNo
         ensures { result ≡ open_shift (site_of_book self.now) }
     {
         self.site.open_shift()
     }
 
-    /// The figures of a shift, the open one's too: of each till its clears and their cents, of each
-    /// product the millilitres that were cleared, their cents, and the millilitres that tests drew.
-    /// None for shifts to come.
+    /// Returns the figures of a shift, also of the open one: for each till its clears and their
+    /// cents; for each product the millilitres that were cleared, their cents, and the millilitres
+    /// that tests drew. None for a shift to come.
     pub fn shift(&self, n: ShiftNo) -> Option<ShiftRow>
         ensures { result ≡ shift_row n (site_of_book self.now).sales (site_of_book self.now).drawn }
     {
         self.site.shift(n)
     }
 
-    /// The last reading of nozzle n of point p. None where the site has no such nozzle.
+    /// Returns the last reading of nozzle n of point p; None if the site has no such nozzle.
     pub fn reading(&self, p: FpNo, n: NozzleNo) -> Option<Millilitres>
         ensures { result ≡ last_of p n (site_of_book self.now).nozzles }
     {

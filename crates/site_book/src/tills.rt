@@ -5,7 +5,7 @@ ghost use Rattle.site_book.specs.SignedOn.{tills_with};
 
 use site_base::SignChange;
 
-/// How many tills are signed on after such a change, where so many were before it.
+/// Returns how many tills are signed on after this change, if `on` were before it.
 pub fn tills_with(change: &Option<SignChange>, on: usize) -> usize
     requires { on < 64 }
     ensures { result ≡ tills_with change.now on }

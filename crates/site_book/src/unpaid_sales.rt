@@ -1,4 +1,4 @@
-//! The unpaid transactions, kept while the book goes on.
+//! The unpaid transactions, kept up to date as the book grows.
 
 ghost use Rattle.std.specs.Prelude.{◌≡◌, ◌+◌, ◌≤◌, ◌++◌, ◌∷◌, [], List, take, filter, IfOk, OnOk};
 ghost use Rattle.std.specs.Prelude.{OnErr, length};
@@ -18,9 +18,9 @@ use site_base::{Answer, Event, NoMemory, Row, ShiftNo};
 use std::alloc::Global;
 use std::marker::Model;
 
-/// The transactions of a book that aren't cleared, in the order in which they were sold. It reads
-/// each row of the book once, before the book forgets it, so a book that goes on costs it no more
-/// than its new rows and the transactions that are unpaid.
+/// The transactions of a book that aren't cleared, in the order in which they were sold. Each row
+/// of the book is read once, before the book forgets it. So a read costs no more than the new rows
+/// and the unpaid transactions.
 #[derive(Drop)]
 pub struct UnpaidSales {
     // The rows before this place are read.
@@ -39,7 +39,8 @@ impl Model for UnpaidSales {
 }
 
 impl UnpaidSales {
-    /// Of a book no row of which is read, nor forgotten. It takes no memory.
+    /// Returns no transactions, for a book of which no row is read or forgotten. It takes no
+    /// memory.
     pub fn new(alloc: Global) -> Self
         ensures { (b : Book) → b.forgotten ≡ 0 → GoesBy result b }
     {
@@ -50,9 +51,9 @@ impl UnpaidSales {
         }
     }
 
-    /// Reads the rows of the book that aren't read yet, and looks up what was unpaid. Where what is
-    /// kept goes by the book, it then has all of its unpaid transactions, as they stand. After
-    /// `NoMemory` it still goes by the book, with some rows read.
+    /// Reads the rows of the book that aren't read yet, and looks up what was unpaid. If the list
+    /// matched the book, it then has all unpaid transactions of the book, in their present state.
+    /// After `NoMemory` it still matches the book, with some rows read.
     pub fn read(&mut self, alloc: Global, book: &SiteBook) -> Result<(), NoMemory>
         ensures kept { GoesBy self.old book.now → GoesBy self.new book.now }
         ensures all { OnOk result
@@ -67,8 +68,8 @@ impl UnpaidSales {
         Ok(())
     }
 
-    /// Reads the rows of the book that aren't read yet; then the book forgets all its rows. After
-    /// `NoMemory` it has forgotten none.
+    /// Reads the rows of the book that aren't read yet, and then lets the book forget all its rows.
+    /// After `NoMemory` the book has forgotten none.
     pub fn forget_rows(&mut self, alloc: Global, book: &mut SiteBook) -> Result<(), NoMemory>
         ensures kept { GoesBy self.old book.old → GoesBy self.new book.new }
         ensures forgets { OnOk result (book.new ≡ with_rows_forgotten book.old) }
@@ -79,7 +80,7 @@ impl UnpaidSales {
         Ok(())
     }
 
-    /// The transactions that were unpaid when the book was read last.
+    /// Returns the transactions that were unpaid at the last read of the book.
     pub fn as_slice(&self) -> &[NamedSale]
         ensures { result.now ≡ self.now.sales }
     {

@@ -31,8 +31,8 @@ use std::alloc::Global;
 use std::marker::Model;
 use transaction_buffer::{Buffer, Figure, FoundSale, Request, Sale};
 
-/// The sales of a site and the figures of its shifts. The figures are those of the sales that were
-/// cleared and of what tests drew: the type keeps it. Contracts see the sales and the draws alone.
+/// The sales of a site and the figures of its shifts. By its type the figures are those of the
+/// cleared sales and of what tests drew. Contracts see only the sales and the draws.
 #[derive(Drop)]
 pub struct Accounts {
     sales: Buffer,
@@ -61,7 +61,7 @@ impl Model for Accounts {
 }
 
 impl Accounts {
-    /// No sale, and shift 1 open with nothing in it. It takes no memory.
+    /// Returns no sale, and shift 1 open with nothing in it. It takes no memory.
     pub fn new(alloc: Global) -> Self
         ensures sales { result.sales ≡ no_sales }
         ensures drawn { result.drawn ≡ nothing_drawn ∷ [] }
@@ -98,28 +98,28 @@ impl Accounts {
         self.shifts.reserve()
     }
 
-    /// The number of the open shift.
+    /// Returns the number of the open shift.
     pub fn open_shift(&self) -> ShiftNo
         ensures { result ≡ length self.now.drawn }
     {
         self.shifts.open()
     }
 
-    /// How many transactions of point p are unpaid: payable or locked.
+    /// Returns how many transactions of point p are unpaid: payable or locked.
     pub fn unpaid(&self, p: FpNo) -> u8
         ensures { result ≡ unpaid_at p self.now.sales }
     {
         self.sales.unpaid(p)
     }
 
-    /// The number of point p's next sale in the open shift. None where it has none left.
+    /// Returns the number of point p's next sale in the open shift; None if there is none left.
     pub fn next_seq(&self, p: FpNo) -> Option<Seq>
         ensures { result ≡ next_number p (length self.now.drawn) self.now.sales }
     {
         self.sales.next_seq(p, self.shifts.open())
     }
 
-    /// The transaction, if it is there.
+    /// Finds the transaction, if there is one.
     pub fn find(&self, p: FpNo, shift: ShiftNo, s: Seq) -> Option<FoundSale>
         ensures there { is_some result ≡ has_sale (key shift p s) self.now.sales }
         ensures key { IfSome result (λ sale. key_of sale ≡ key shift p s) }
@@ -128,7 +128,7 @@ impl Accounts {
         self.sales.find(p, shift, s)
     }
 
-    /// The transaction as a read shows it.
+    /// Returns the transaction as a read shows it.
     pub fn view(&self, sale: &FoundSale) -> TransactionView
         requires { IsPlaced sale.now self.now.sales }
         ensures { view_of_sale (key_of sale.now) self.now.sales ≡ Some result }
@@ -136,7 +136,7 @@ impl Accounts {
         self.sales.view(sale)
     }
 
-    /// The transaction itself: as it was sold, and how it stands.
+    /// Returns the transaction itself: as it was sold, and its present state.
     pub fn sale(&self, found: &FoundSale) -> Sale
         requires { IsPlaced found.now self.now.sales }
         ensures { sale_of (key_of found.now) self.now.sales ≡ Some result }
@@ -144,7 +144,7 @@ impl Accounts {
         self.sales.sale(found)
     }
 
-    /// Why the transaction table would refuse what the till asks of the transaction, if it would.
+    /// Returns why the transaction table would refuse the till's request, if it would.
     pub fn judge(&self, sale: &FoundSale, request: &Request, t: TillNo) -> Result<(), Refusal>
         requires { IsPlaced sale.now self.now.sales }
         ensures accepted { OnOk result (
@@ -155,8 +155,8 @@ impl Accounts {
         self.sales.judge(sale, request, t)
     }
 
-    /// The millilitres of product q in the transactions of this status. Those of all transactions
-    /// fit in 64 bits.
+    /// Returns the millilitres of product q in the transactions of this status. Those of all
+    /// transactions fit in 64 bits.
     pub fn sum(&self, q: ProductNo, status: Status) -> u64
         ensures value { result ≡ volume_by q status self.now.sales }
         ensures fits { volume_of q self.now.sales < 2 ^ 64 }
@@ -164,15 +164,14 @@ impl Accounts {
         self.sales.sum(q, status)
     }
 
-    /// The millilitres that tests drew of a product in all shifts.
+    /// Returns the millilitres that tests drew of a product in all shifts.
     pub fn drawn_volume(&self, q: ProductNo) -> u64
         ensures { result ≡ drawn_of q self.now.drawn }
     {
         self.drawn[q.cell()]
     }
 
-    /// A figure summed over the sales themselves, which fits in 64 bits: no sum that is kept is
-    /// read.
+    /// Sums a figure over the sales themselves, and reads no sum that is kept. It fits in 64 bits.
     pub fn recount(&self, figure: &Figure) -> u64
         requires { figure_of figure.now self.now.sales < 2 ^ 64 }
         ensures { result ≡ figure_of figure.now self.now.sales }
@@ -180,8 +179,7 @@ impl Accounts {
         self.sales.recount(figure)
     }
 
-    /// The millilitres that tests drew of a product in all shifts, summed over the shifts. They fit
-    /// in 64 bits.
+    /// Sums the millilitres that tests drew of a product over all shifts. They fit in 64 bits.
     pub fn recount_drawn(&self, q: ProductNo) -> u64
         requires { drawn_of q self.now.drawn < 2 ^ 64 }
         ensures { result ≡ drawn_of q self.now.drawn }
@@ -190,7 +188,7 @@ impl Accounts {
         self.shifts.drawn_volume(q)
     }
 
-    /// Adds a sale of point p in the open shift, and answers its number there. The conditions are
+    /// Adds a sale of point p in the open shift, and returns its number there. The conditions are
     /// those of the buffer.
     pub fn add(&mut self, p: FpNo, view: TransactionView) -> Seq
         requires room { 0 < room_at p self.old.rooms }
@@ -210,7 +208,7 @@ impl Accounts {
         self.sales.add(p, shift, view)
     }
 
-    /// Adds a draw of a test to the open shift: of this product, so many millilitres.
+    /// Adds a draw of a test to the open shift: this many millilitres of this product.
     pub fn note_drawn(&mut self, q: ProductNo, volume: u64)
         requires { drawn_of q self.old.drawn + volume < 2 ^ 64 }
         ensures sales { self.new.sales ≡ self.old.sales }
@@ -224,7 +222,7 @@ impl Accounts {
     }
 
     /// Does what the transaction table says of a request that it accepts. A clear counts in the
-    /// open shift, and the figures with it fit in 64 bits.
+    /// open shift, whose figures fit in 64 bits with it.
     pub fn grant(&mut self, sale: &FoundSale, request: &Request, t: TillNo) -> Answer
         requires placed { IsPlaced sale.now self.old.sales }
         requires accepted { refusal_of request.now t (key_of sale.now) self.old.sales ≡ None }
@@ -249,7 +247,7 @@ impl Accounts {
         self.sales.grant(sale, request, t)
     }
 
-    /// Makes every transaction that the till has locked payable; every other stays.
+    /// Makes every transaction payable that the till has locked. Every other one stays.
     pub fn release_all(&mut self, t: TillNo)
         ensures sales { self.new.sales ≡ after_sign_off t self.old.sales }
         ensures drawn { self.new.drawn ≡ self.old.drawn }
@@ -259,9 +257,9 @@ impl Accounts {
         self.sales.release_all(t);
     }
 
-    /// Closes the open shift, which isn't the last one that may be, and opens the next, with
-    /// nothing in it; the answer is the number of the shift that was closed. The room for it is
-    /// reserved; it takes no memory.
+    /// Closes the open shift, which isn't the last possible one, and opens the next with nothing in
+    /// it. Returns the number of the closed shift. Room for the close is reserved; it takes no
+    /// memory.
     pub fn close(&mut self) -> ShiftNo
         requires room { 0 < self.old.closes }
         requires next { (length self.old.drawn == GREATEST_SHIFT) ≡ false }
@@ -274,15 +272,15 @@ impl Accounts {
         self.shifts.perform_close()
     }
 
-    /// The figures of shift n, the open one's too. None for shifts to come.
+    /// Returns the figures of shift n, also of the open one; None for a shift to come.
     pub fn shift(&self, n: ShiftNo) -> Option<ShiftRow>
         ensures { result ≡ shift_row n self.now.sales self.now.drawn }
     {
         self.shifts.row(n)
     }
 
-    /// The millilitres that tests drew in shift n of each product, from 1 on. None for shifts to
-    /// come.
+    /// Returns the millilitres that tests drew in shift n, for each product from 1 on; None for a
+    /// shift to come.
     pub fn draws(&self, n: ShiftNo) -> Option<[u64; PRODUCT_CELLS]>
         ensures { result ≡ member n self.now.drawn }
     {
@@ -292,14 +290,14 @@ impl Accounts {
         }
     }
 
-    /// How many sales the till cleared in all shifts, and their cents.
+    /// Returns how many sales the till cleared in all shifts, and their cents.
     pub fn till(&self, t: TillNo) -> (u64, u64)
         ensures { result ≡ (clears_by t self.now.sales, cents_by t self.now.sales) }
     {
         self.tills[t.cell()]
     }
 
-    /// The cents that all tills cleared in the open shift. They fit in 64 bits.
+    /// Returns the cents that all tills cleared in the open shift. They fit in 64 bits.
     pub fn takings(&self) -> u64
         requires { takings_in (length self.now.drawn) self.now.sales < 2 ^ 64 }
         ensures { result ≡ takings_in (length self.now.drawn) self.now.sales }

@@ -1,4 +1,4 @@
-//! What a till or a dispenser is told of what a point does.
+//! What a till or a dispenser is answered about what a point does.
 
 ghost use Rattle.std.specs.Prelude.{◌≡◌, ℕ, false};
 ghost use Rattle.site_core.specs.Answers.{delivers};
@@ -8,7 +8,7 @@ ghost use Rattle.written_site.specs.SiteStep.{step_told};
 use fuelling_point::PointStep;
 use site_base::Answer;
 
-/// How a step is told that ends no delivery: no sale, and no draw.
+/// Returns the answer to a step that ends no delivery: no sale, and no draw.
 pub fn answer_to(step: &PointStep) -> Answer
     requires { delivers step.now ≡ false }
     ensures { (s : SiteState) (p growth : ℕ) → step_told s p growth step.now ≡ result }

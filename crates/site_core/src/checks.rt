@@ -1,5 +1,5 @@
-//! The site's checks, each by what it checks. An event's own functions ask those that it needs, in
-//! the order of the rules.
+//! The site's checks, each named for what it checks. An event's own functions call those that it
+//! needs, in the order of the rules.
 
 ghost use Rattle.std.specs.Prelude.{◌≡◌, true, false, not, is_some, nat_lt, ◌==◌, None, Some, IfOk};
 ghost use Rattle.std.specs.Prelude.{OnOk};
@@ -170,7 +170,7 @@ impl SiteParts {
     }
 }
 
-/// The price is in range.
+/// Checks that the price is in range; otherwise `BadPrice`.
 pub fn check_price(price: u32) -> Result<Mills, Refusal>
     ensures check { Passes (unless (is_between 1 GREATEST_PRICE price) BadPrice) result }
     ensures value { IfOk result (λ mills. mills ≡ price) }
@@ -181,7 +181,8 @@ pub fn check_price(price: u32) -> Result<Mills, Refusal>
     }
 }
 
-/// It is a volume or a sum of money that a release may be limited to.
+/// Checks that the preset is a volume or a sum of money to which a release may be limited;
+/// otherwise `BadPreset`.
 pub fn check_preset(preset: Preset) -> Result<(), Refusal>
     ensures { Passes (unless (is_preset preset) BadPreset) result }
 {

@@ -111,7 +111,7 @@ impl SiteParts {
     }
 }
 
-/// Gives back the hold of the point, where this step of it ends what it was released for.
+/// Gives back the hold of the point if this step ends what it was released for.
 pub fn give_back(claims: &mut Claims, p: FpNo, step: &PointStep)
     ensures { claims.new ≡ holds_unless_over p step.now claims.old }
 {

@@ -41,7 +41,7 @@ impl SiteParts {
         }
     }
 
-    /// The point as a read shows it.
+    /// Returns the point as a read shows it.
     pub fn view_point(&self, p: FpNo) -> Option<PointView>
         ensures { result ≡ view_point (site_of self.now) p }
     {
@@ -54,7 +54,7 @@ impl SiteParts {
         }
     }
 
-    /// The transaction that a till calls so, as a read shows it.
+    /// Returns the transaction with this name of a till, as a read shows it.
     pub fn view_sale(&self, p: FpNo, id: &SaleId) -> Option<TransactionView>
         ensures { result ≡ view_sale (site_of self.now) p id.now }
     {

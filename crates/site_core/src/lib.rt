@@ -1,6 +1,6 @@
-//! The one-thread site: it judges each event of a till or a dispenser by the site's rules, and
-//! answers just what the written step answers (the crate written_site). Whatever it is asked, a
-//! refusal leaves it as it was.
+//! The one-thread site. It judges each event of a till or a dispenser by the site's rules, and
+//! answers exactly what the written step answers (crate `written_site`). A refusal leaves it as it
+//! was.
 #![tactic(auto)]
 
 mod accounts;

@@ -1,5 +1,5 @@
-//! The performance of an event that has passed its checks. It can't be refused, and nothing is
-//! looked up again.
+//! Performs an event that has passed its checks. It can't be refused, and nothing is looked up
+//! again.
 
 ghost use Rattle.std.specs.Prelude.{◌≡◌, if◌then◌else◌};
 ghost use Rattle.std.specs.FinMap as finite;

@@ -16,7 +16,7 @@ use site_base::{
 use std::alloc::Global;
 use std::marker::Model;
 
-/// A point that was found: its number, and where its row stands.
+/// A point that was found: its number, and the place of its row.
 #[derive(Clone, Copy, Debug, PartialEq, Eq)]
 pub struct FoundPoint {
     /// Its number.
@@ -25,7 +25,7 @@ pub struct FoundPoint {
     pub place: usize,
 }
 
-/// The points in configured order. What is asked of one costs the same for one point and for all.
+/// The points in configured order. An operation on one costs the same however many there are.
 #[derive(Drop)]
 pub struct Points {
     rows: Vec<(FpNo, Point)>,
@@ -47,7 +47,7 @@ impl Model for Points {
 }
 
 impl Points {
-    /// Each configured point, closed. No number stands twice among them.
+    /// Returns each configured point, closed. No number is among them twice.
     pub fn try_new(alloc: Global, entries: &[PointEntry]) -> Result<Self, NoMemory>
         requires { none_alike same_point entries.now ≡ true }
         ensures { IfOk result (λ points. points ≡ points_of entries.now) }
@@ -74,7 +74,7 @@ impl Points {
         place_of(&self.rows, p)
     }
 
-    /// The point with this number, if it is there.
+    /// Finds the point with this number, if there is one.
     pub fn find(&self, p: FpNo) -> Option<FoundPoint>
         ensures there { is_some result ≡ is_some (row_of p self.now) }
         ensures number { IfSome result (λ point. point.number ≡ p) }
@@ -86,7 +86,7 @@ impl Points {
         }
     }
 
-    /// The point as a read shows it; its holder isn't known here.
+    /// Returns the point as a read shows it. Its holder isn't known here.
     pub fn view(&self, point: &FoundPoint) -> PointView
         requires { IsFound point.now self.now }
         ensures { result ≡ point_view (facts_in self.now point.now.number) None }
@@ -94,7 +94,7 @@ impl Points {
         self.rows[point.place].1.view()
     }
 
-    /// Is the point there, and closed, idle or calling?
+    /// Is there such a point, and is it closed, idle or calling?
     pub fn rests(&self, p: FpNo) -> bool
         ensures { result ≡ rests self.now p }
     {
@@ -104,7 +104,7 @@ impl Points {
         }
     }
 
-    /// Why the point would refuse the event, if it would.
+    /// Returns why the point would refuse the event, if it would.
     pub fn judge(&self, point: &FoundPoint, event: &PointEvent) -> Result<(), Refusal>
         requires { IsFound point.now self.now }
         ensures accepted { OnOk result (
@@ -115,7 +115,7 @@ impl Points {
         self.rows[point.place].1.judge(event)
     }
 
-    /// Does at the point what the point table says of an event that it takes.
+    /// Does to the point what the point table says of an event that it accepts.
     pub fn perform(&mut self, point: &FoundPoint, event: PointEvent) -> PointStep
         requires found { IsFound point.now self.old }
         requires accepted { refusal_of event (facts_in self.old point.now.number) ≡ None }
@@ -128,7 +128,7 @@ impl Points {
         self.rows[point.place].1.perform(event)
     }
 
-    /// The points with their numbers, in configured order.
+    /// Returns the points with their numbers, in configured order.
     pub fn rows(&self) -> &[(FpNo, Point)]
         ensures { result.now ≡ self.now }
     {

@@ -1,5 +1,4 @@
-//! The ranges of the numbers that a configuration carries, which their types give where they are
-//! read.
+//! The ranges of the numbers in a configuration, which their types guarantee where they are read.
 
 ghost use Rattle.std.specs.Prelude.{◌≡◌, true, nat_le};
 ghost use Rattle.std.specs.List.{list_all};
@@ -11,8 +10,8 @@ ghost use Rattle.written_site.specs.Sound.{IsFit};
 
 use site_base::{NozzleEntry, PointEntry, PriceBook, ProductEntry, ProductNo, SiteConfig};
 
-/// A site can open from this configuration, of which these are the prices: it is fit, and each
-/// number that it carries is in its range.
+/// States that a site can open from this configuration, which has these prices: it is fit, and each
+/// of its numbers is in its range.
 pub fn are_fit(config: &SiteConfig, prices: &PriceBook)
     requires { prices.now ≡ prices_of config.now.products }
     ensures { IsFit config.now }

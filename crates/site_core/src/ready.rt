@@ -5,11 +5,11 @@ use fuelling_point::PointEvent;
 use site_base::{Answer, Millilitres, Mills, NozzleNo, ProductNo, TillNo};
 use transaction_buffer::{FoundSale, Request};
 
-/// An event that has passed its checks, with what was found on the way: whatever its performance
-/// needs.
+/// An event that has passed its checks, with everything that was found on the way and that
+/// performing it needs.
 #[derive(Clone, Copy, Debug)]
 pub enum Ready {
-    /// It is answered so, and nothing changes.
+    /// This is the answer, and nothing changes.
     Tell(Answer),
     /// The till signs on.
     SignOn(TillNo),
@@ -30,19 +30,19 @@ pub enum Ready {
     GiveBack(FoundPoint),
     /// The release of the point, or its fuelling, is terminated.
     Terminate(FoundPoint),
-    /// A nozzle of the point is taken out: the point does this.
+    /// A nozzle of the point is taken out, and the point does this.
     Lift {
         point: FoundPoint,
         event: PointEvent,
     },
-    /// So much fuel has flowed by this nozzle of the point, whose meter reads this.
+    /// Fuel has flowed through this nozzle of the point: the growth, and what its meter reads.
     Flow {
         point: FoundPoint,
         nozzle: NozzleNo,
         reading: Millilitres,
         growth: u64,
     },
-    /// This nozzle of the point is put back, whose meter reads this; so much fuel has flowed.
+    /// This nozzle of the point is put back: what its meter reads, and how much fuel has flowed.
     HangUp {
         point: FoundPoint,
         nozzle: NozzleNo,

@@ -1,5 +1,5 @@
-//! The totals of the site and the figures of its shifts, counted from its lists: of the nozzles, of
-//! the points, of the sales and of each shift's draws. No total that is kept is read.
+//! The totals of the site and the figures of its shifts, counted from its lists of nozzles, points,
+//! sales and each shift's draws. No total that is kept is read.
 
 ghost use Rattle.std.specs.Prelude.{◌≡◌, ◌*◌, IfOk, map};
 ghost use Rattle.meters.specs.MeteredVolumes.{product_alone};

@@ -1,4 +1,4 @@
-//! What a fuelling takes that starts.
+//! What a fuelling takes at its start.
 
 ghost use Rattle.std.specs.Prelude.{◌≡◌};
 ghost use Rattle.written_site.specs.SiteState.{facts_of, price_at_start, reading_at_start};

@@ -12,10 +12,10 @@ use site_base::{
 };
 use std::alloc::Global;
 
-/// A run that found no memory: it has done the first `done` events, and no other.
+/// A run for which memory ran out. It has done the first `done` events, and no other.
 #[derive(Clone, Copy, Debug, PartialEq, Eq)]
 pub struct RunStopped {
-    /// How many events are done.
+    /// The number of events that are done.
     pub done: usize,
 }
 
@@ -37,9 +37,8 @@ type Told = (
     Mills,
 );
 
-/// Takes the written step for each event in turn, from the site as it stands, and answers the
-/// replies. Where an allocation fails it stops: the events before that one are done, and the others
-/// aren't.
+/// Takes the written step for each event in turn, from the present site, and returns the replies.
+/// If an allocation fails, it stops: the events before that one are done, and the others aren't.
 pub fn run(
     alloc: Global,
     site: &mut Site,

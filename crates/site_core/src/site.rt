@@ -56,7 +56,8 @@ impl Model for Site {
 }
 
 impl Site {
-    /// The opening site of this configuration: every point closed, nobody signed on.
+    /// Returns the opening site of this configuration: every point is closed, and nobody is signed
+    /// on.
     pub fn try_open(alloc: Global, config: &SiteConfig) -> Result<Site, NoMemory>
         ensures { IfOk result (λ s. s.site ≡ opening config.now) }
     {
@@ -66,7 +67,7 @@ impl Site {
         Ok(Site { parts })
     }
 
-    /// What a site always keeps holds of this one: see `Sound`.
+    /// States that this site has what every site keeps: see `Sound`.
     pub fn is_sound(&self)
         ensures { Sound self.now.site }
     {
@@ -87,10 +88,10 @@ impl Site {
         self.parts.prepare(event)
     }
 
-    /// The written step: the reply to this event of this actor, and the site that it leads to.
-    /// After a refusal the site is as it was. The room of `prepare` for the event is there; it
-    /// takes no memory. A sale uses one place of its point's room, a shift that is closed one of
-    /// the closes; all other room stays.
+    /// Takes the written step: returns the reply to this event of this actor, and leads to the next
+    /// site. After a refusal the site is as it was. `prepare` has to have made the room for the
+    /// event; the step takes no memory. A sale uses one place of its point's room, and the close of
+    /// a shift uses one of the closes. All other room stays.
     #[inline(always)]
     pub fn step(&mut self, actor: Actor, event: Event) -> Reply
         requires room { HasRoom self.old.room event }
@@ -120,54 +121,55 @@ impl Site {
         self.parts.is_signed_on(t)
     }
 
-    /// The transaction that a till calls so, as a read shows it. None where it isn't there.
+    /// Returns the transaction with this name of a till, as a read shows it; None if there is none.
     pub fn transaction(&self, p: FpNo, id: SaleId) -> Option<TransactionView>
         ensures { result ≡ view_sale self.now.site p id }
     {
         self.parts.view_sale(p, &id)
     }
 
-    /// The sale of this point in this shift with this number: as it was sold, and how it stands.
-    /// None where it isn't there.
+    /// Returns the sale of this point in this shift with this number, as it was sold, with its
+    /// present state; None if there is no such sale.
     pub fn sale(&self, p: FpNo, shift: ShiftNo, number: Seq) -> Option<Sale>
         ensures { result ≡ sale_of (key shift p number) self.now.site.sales }
     {
         self.parts.sale(p, shift, number)
     }
 
-    /// The product of the nozzle that is out at the point. None where no nozzle is.
+    /// Returns the product of the nozzle that is out at the point; None if no nozzle is out.
     pub fn product_out(&self, p: FpNo) -> Option<ProductNo>
         ensures { result ≡ product_lifted self.now.site p }
     {
         self.parts.product_out(p)
     }
 
-    /// The number of the open shift.
+    /// Returns the number of the open shift.
     pub fn open_shift(&self) -> ShiftNo
         ensures { result ≡ open_shift self.now.site }
     {
         self.parts.open_shift()
     }
 
-    /// The figures of shift n, the open one's too: of each till its clears and their cents, of each
-    /// product the millilitres that were cleared, their cents, and the millilitres that tests drew.
-    /// None for shifts to come.
+    /// Returns the figures of shift n, also of the open one: for each till its clears and their
+    /// cents; for each product the millilitres that were cleared, their cents, and the millilitres
+    /// that tests drew. None for a shift to come.
     pub fn shift(&self, n: ShiftNo) -> Option<ShiftRow>
         ensures { result ≡ shift_row n self.now.site.sales self.now.site.drawn }
     {
         self.parts.accounts.shift(n)
     }
 
-    /// The same as `shift`, counted from the site's lists alone: of the shift's clears no figure
-    /// that is kept is read.
+    /// Returns the same as `shift`, but counted only from the site's lists. No kept figure of the
+    /// shift's clears is read.
     pub fn counted_shift(&self, n: ShiftNo) -> Option<ShiftRow>
         ensures { result ≡ shift_row n self.now.site.sales self.now.site.drawn }
     {
         self.parts.counted_shift(n)
     }
 
-    /// The totals of the site, with this number of rows: of each product its volumes, in configured
-    /// order, and of each till what it cleared in all shifts. Each is kept, and read.
+    /// Returns the totals of the site, with this number of rows: for each product its volumes, in
+    /// configured order, and for each till what it cleared in all shifts. They are kept, and only
+    /// read here.
     pub fn totals(&self, alloc: Global, rows: u64) -> Result<Totals, NoMemory>
         ensures rows { IfOk result (λ totals. totals.rows ≡ rows) }
         ensures products { IfOk result (λ totals.
@@ -181,8 +183,8 @@ impl Site {
         })
     }
 
-    /// The same as `totals`, of a site that nobody else holds: counted from its lists alone, no
-    /// total that it kept is read.
+    /// Returns the same as `totals`, but counted only from the site's lists. Nobody else has the
+    /// site, and no total that it kept is read.
     pub fn count_totals(self, alloc: Global, count: u64) -> Result<Totals, NoMemory>
         ensures rows { IfOk result (λ totals. totals.rows ≡ count) }
         ensures products { IfOk result (λ totals.
@@ -196,14 +198,14 @@ impl Site {
         })
     }
 
-    /// The point as a read shows it. None where the site has no such point.
+    /// Returns the point as a read shows it; None if the site has no such point.
     pub fn point(&self, p: FpNo) -> Option<PointView>
         ensures { result ≡ view_point self.now.site p }
     {
         self.parts.view_point(p)
     }
 
-    /// The last reading of nozzle n of point p. None where the site has no such nozzle.
+    /// Returns the last reading of nozzle n of point p; None if the site has no such nozzle.
     pub fn reading(&self, p: FpNo, n: NozzleNo) -> Option<Millilitres>
         ensures { result ≡ last_of p n self.now.site.nozzles }
     {

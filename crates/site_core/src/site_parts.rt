@@ -1,5 +1,5 @@
-//! What the site keeps, and its step: `check` finds the first refusal or what is `Ready`, and
-//! `perform` does that.
+//! What the site keeps, and its step: `check` finds the first refusal or returns a `Ready`, and
+//! `perform` does what that says.
 
 ghost use Rattle.std.specs.Prelude.{◌≡◌, ℕ, ◌≤◌, IfOk, OnOk, OnErr};
 ghost use Rattle.transaction_buffer.specs.Rooms.{room_at};
@@ -31,7 +31,7 @@ pub struct SiteParts {
 }
 
 impl SiteParts {
-    /// What the opening site keeps.
+    /// Returns what the opening site keeps.
     pub fn try_open(alloc: Global, config: &SiteConfig) -> Result<SiteParts, NoMemory>
         ensures { IfOk result (λ parts. site_of parts ≡ opening config.now) }
     {
@@ -67,7 +67,7 @@ impl SiteParts {
         }
     }
 
-    /// The written step: the first refusal, or what the event changes.
+    /// Takes the written step: the first refusal, or what the event changes.
     #[inline(always)]
     pub fn step(&mut self, actor: Actor, event: &Event) -> Reply
         requires sound { Sound (site_of self.old) }

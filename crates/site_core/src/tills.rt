@@ -27,7 +27,7 @@ impl Model for Tills {
 }
 
 impl Tills {
-    /// Nobody.
+    /// Returns the empty set.
     pub fn new() -> Self
         ensures { result ≡ set.empty }
     {
@@ -36,7 +36,7 @@ impl Tills {
         }
     }
 
-    /// These tills.
+    /// Returns the set of these tills.
     pub fn from_list(tills: &[TillNo]) -> Self
         ensures { result ≡ set.from_list tills.now }
     {
@@ -61,7 +61,7 @@ impl Tills {
         self.cells[t.cell()] = true;
     }
 
-    /// Takes a till out.
+    /// Removes a till.
     pub fn remove(&mut self, t: TillNo)
         ensures { self.new ≡ set.remove self.old t }
     {

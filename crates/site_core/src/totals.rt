@@ -1,4 +1,4 @@
-//! The totals of the site, as they are kept.
+//! The totals that the site keeps.
 
 ghost use Rattle.std.specs.Prelude.{◌≡◌, IfOk};
 ghost use Rattle.written_site.specs.ShiftFigures.{product_totals, till_totals};

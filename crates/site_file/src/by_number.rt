@@ -29,7 +29,7 @@ impl Model for Products {
 }
 
 impl Products {
-    /// No products.
+    /// Returns no products.
     pub fn new(alloc: Global) -> Self
         ensures { result ≡ [] }
     {
@@ -38,7 +38,7 @@ impl Products {
         }
     }
 
-    /// The product of this number, if it is there.
+    /// Returns the product of this number, if it is there.
     pub fn get(&self, number: u64) -> Option<ProductNo>
         ensures there { is_some result ≡ has_product self.now number }
         ensures value { IfSome result (λ q. q ≡ number) }
@@ -56,7 +56,7 @@ impl Products {
         self.by_number.get(&number)
     }
 
-    /// Has a product this name?
+    /// Does a product have this name?
     pub fn has_name(&self, name: &str) -> bool
         ensures { result ≡ has_name self.now name.now }
     {
@@ -65,7 +65,7 @@ impl Products {
             .any(|product| product.name.as_str() == name)
     }
 
-    /// Takes one more product, whose number is new. On want of memory nothing changes.
+    /// Adds a product, whose number is new. If memory runs out, nothing changes.
     pub fn push(&mut self, product: ProductEntry) -> Result<(), NoMemory>
         requires new { has_product self.old product.number ≡ false }
         ensures ok { OnOk result (self.new ≡ self.old ++ product ∷ []) }
@@ -76,7 +76,7 @@ impl Products {
         Ok(())
     }
 
-    /// The list of the products.
+    /// Returns the list of the products.
     pub fn into_list(self, alloc: Global) -> Result<Vec<ProductEntry>, NoMemory>
         ensures { IfOk result (λ v. v.items ≡ self) }
     {

@@ -10,22 +10,22 @@ use std::fmt;
 use thiserror::Error;
 
 /// What is wrong with a site file: its first fault, in the order of the site file's table. It is
-/// printed by its number, and its key where it has one: `fault 72 product`.
+/// printed with its number, and with its key if it has one: `fault 72 product`.
 #[derive(Debug, Drop, Error)]
 pub enum ConfigFault {
-    /// An allocation failed. It is answered only where that happened in the call itself.
+    /// An allocation failed. It is returned only if that happened in the call itself.
     NoMemory,
     /// The octets aren't UTF-8, or aren't TOML.
     NotToml,
     /// A table has a key that no such table has: the least one, by its octets.
     UnknownKey(PrintedKey),
-    /// A table hasn't a key that each such table has.
+    /// A table doesn't have a key that each such table has.
     MissingKey(Key),
     /// A value, or a member of a list, isn't of its kind (whole number, text, list or table).
     WrongKind(Key),
     /// A value is out of its range, or a list has too few or too many members.
     OutOfRange(Key),
-    /// A manager, a product's number or name, or a point's number stands twice.
+    /// A manager, a product's number or name, or a point's number is in the file twice.
     Repeated(Key),
     /// A nozzle's product is not the number of a product of the file.
     UnknownProduct,

@@ -30,7 +30,7 @@ pub enum Key {
 }
 
 impl Key {
-    /// The key as a site file has it.
+    /// Returns the key as a site file has it.
     pub fn text(self) -> &'static str
         ensures { result.now ≡ key_text self }
     {

@@ -1,7 +1,7 @@
 //! The site file: which site a TOML text configures, or its first fault.
 //!
-//! `read_config` answers the configuration that the text says, exactly, or the first fault in the
-//! order of the site file's table. Which that is, `specs/SiteFile.antt` says line for line.
+//! `read_config` returns exactly the configuration in the text, or the first fault in the order of
+//! the site file's table. `specs/SiteFile.antt` says line for line which that is.
 #![tactic(auto)]
 
 mod by_number;

@@ -13,7 +13,7 @@ use site_base::{TILLS, TillNo};
 use std::alloc::Global;
 use toml::Value;
 
-/// The tills of the list, none twice; none where there is no list.
+/// Returns the tills of the list, none twice; none if there is no list.
 #[tactic(auto, unfolding(crate::specs::SiteFile::managers_of))]
 pub fn managers_of(alloc: Global, value: Option<&Value>) -> Result<Vec<TillNo>, ConfigFault>
     ensures { Gives (λ v. v.items) result

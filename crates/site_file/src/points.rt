@@ -18,7 +18,7 @@ use site_base::{
 use std::alloc::Global;
 use toml::{Table, Value};
 
-/// The fuelling points of a site file, in configured order.
+/// Returns the fuelling points of a site file, in configured order.
 #[tactic(auto, unfolding(crate::specs::SiteFile::points_of))]
 pub fn points_of(
     alloc: Global,

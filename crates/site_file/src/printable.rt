@@ -26,7 +26,7 @@ impl Model for PrintedKey {
 }
 
 impl PrintedKey {
-    /// The key with these octets, as it is printed.
+    /// Returns the key with these octets as it is printed.
     #[tactic(auto, unfolding(crate::specs::Keys::printed_key))]
     pub fn new(alloc: Global, key: &[u8]) -> Result<PrintedKey, AllocError>
         ensures { IfOk result (λ k. k ≡ printed_key key.now) }
@@ -39,7 +39,7 @@ impl PrintedKey {
         Ok(PrintedKey { text })
     }
 
-    /// The text that is printed.
+    /// Returns the printed text.
     pub fn as_str(&self) -> &str
         ensures { result.now ≡ self.now }
     {

@@ -16,7 +16,7 @@ use site_base::{GREATEST_PRICE, Mills, PRODUCTS, ProductEntry, ProductName, Prod
 use std::alloc::Global;
 use toml::{Table, Value};
 
-/// The products of a site file, in configured order.
+/// Returns the products of a site file, in configured order.
 #[tactic(auto, unfolding(crate::specs::SiteFile::products_of))]
 pub fn products_of(alloc: Global, file: &Table) -> Result<Products, ConfigFault>
     ensures { Gives (λ p. p) result (spec.products_of (table_view file.now)) }

@@ -1,4 +1,4 @@
-//! The text of a site file.
+//! Reads the text of a site file.
 
 ghost use Rattle.toml.specs.View.{table_view};
 ghost use Rattle.site_file.specs.Saying.{Gives};
@@ -10,10 +10,10 @@ use site_base::SiteConfig;
 use std::alloc::Global;
 use toml::Table;
 
-/// The site that a site file configures, or its first fault. Of a table its unknown keys come
-/// first, then its keys in the order of the site file's table: is one there, is it of its kind, in
-/// its range, not repeated, and is a nozzle's product there. Want of memory is answered only where
-/// an allocation failed in the call.
+/// Returns the site that a site file configures, or its first fault. For a table the unknown keys
+/// come first, then its keys in the order of the site file's table: whether one is there, is of its
+/// kind, is in its range, isn't repeated, and whether a nozzle's product is there. `NoMemory` only
+/// if an allocation failed in the call.
 #[tactic(auto, unfolding(crate::specs::SiteFile::config_of))]
 pub fn read_config(alloc: Global, octets: &[u8]) -> Result<SiteConfig, ConfigFault>
     ensures { Gives (λ c. c) result (spec.config_of octets.now) }

@@ -1,4 +1,4 @@
-//! The site that a site file's tree says.
+//! The site in a site file's tree.
 
 ghost use Rattle.std.specs.Prelude.{◌≡◌, ◌≤◌, option_map};
 ghost use Rattle.toml.specs.View.{view, table_view};
@@ -16,7 +16,7 @@ use site_base::{GREATEST_ROWS, SiteConfig};
 use std::alloc::Global;
 use toml::{Table, Value};
 
-/// The site that the tree of a site file says, or its first fault.
+/// Returns the site in the tree of a site file, or its first fault.
 #[tactic(auto, unfolding(crate::specs::SiteFile::site_of))]
 pub fn site_of(alloc: Global, file: &Table) -> Result<SiteConfig, ConfigFault>
     ensures { Gives (λ c. c) result (spec.site_of (table_view file.now)) }

@@ -13,7 +13,7 @@ use crate::printable::PrintedKey;
 use std::alloc::Global;
 use toml::Table;
 
-/// The table has none but these keys, or its least other one is the fault.
+/// Checks that the table has only these keys. The fault is its least other key.
 #[tactic(auto, using(crate::proofs::Trees::is_first), unfolding(crate::specs::SiteFile::with_keys))]
 pub fn with_keys(alloc: Global, table: &Table, known: &[Key]) -> Result<(), ConfigFault>
     ensures { Gives (λ _. table_view table.now) result

@@ -1,4 +1,4 @@
-//! One value of a table: is it there, of its kind, in its range?
+//! One value of a table: whether it is there, of its kind, and in its range.
 
 ghost use Rattle.std.specs.Prelude.{◌≡◌, ◌≤◌, IfOk, option_map, string_bytes};
 ghost use Rattle.toml.specs.Data.{get_member};
@@ -12,7 +12,7 @@ use crate::key::Key;
 use toml::value::Array;
 use toml::{Table, Value};
 
-/// What stands at a key, if anything does.
+/// Returns the value at a key, if there is one.
 pub fn found_at(table: &Table, key: Key) -> Option<&Value>
     ensures { option_map (λ v. view v.now) result
         ≡ get_member (key_text key) (table_view table.now) }
@@ -20,7 +20,7 @@ pub fn found_at(table: &Table, key: Key) -> Option<&Value>
     table.get(key.text())
 }
 
-/// What stands at a key, which must be there.
+/// Returns the value at a key, which must be there.
 #[tactic(auto, unfolding(crate::specs::SiteFile::value_at))]
 pub fn value_at(table: &Table, key: Key) -> Result<&Value, ConfigFault>
     ensures { Gives (λ v. view v.now) result (spec.value_at key (table_view table.now)) }
@@ -31,7 +31,7 @@ pub fn value_at(table: &Table, key: Key) -> Result<&Value, ConfigFault>
     }
 }
 
-/// A whole number.
+/// Returns the value as a whole number.
 pub fn read_whole(value: &Value, key: Key) -> Result<i64, ConfigFault>
     ensures { Gives (λ z. z) result (spec.whole_number key (view value.now)) }
 {
@@ -41,7 +41,7 @@ pub fn read_whole(value: &Value, key: Key) -> Result<i64, ConfigFault>
     }
 }
 
-/// A text.
+/// Returns the value as a text.
 pub fn text(value: &Value, key: Key) -> Result<&String, ConfigFault>
     ensures { Gives (λ s. string_bytes s.now) result (spec.text key (view value.now)) }
 {
@@ -51,7 +51,7 @@ pub fn text(value: &Value, key: Key) -> Result<&String, ConfigFault>
     }
 }
 
-/// A list.
+/// Returns the value as a list.
 pub fn list(value: &Value, key: Key) -> Result<&Array, ConfigFault>
     ensures { Gives (λ a. array_view a.now) result (spec.list key (view value.now)) }
 {
@@ -61,7 +61,7 @@ pub fn list(value: &Value, key: Key) -> Result<&Array, ConfigFault>
     }
 }
 
-/// A table.
+/// Returns the value as a table.
 pub fn table(value: &Value, key: Key) -> Result<&Table, ConfigFault>
     ensures { Gives (λ t. table_view t.now) result (spec.table_of key (view value.now)) }
 {
@@ -71,7 +71,7 @@ pub fn table(value: &Value, key: Key) -> Result<&Table, ConfigFault>
     }
 }
 
-/// A number from low to high.
+/// Returns a number from low to high.
 pub fn read_within(number: i64, key: Key, low: u64, high: u64) -> Result<u64, ConfigFault>
     ensures said { Gives (λ n. n) result (spec.in_range key low high number) }
     ensures range { IfOk result (λ n. (low ≤ n) × (n ≤ high)) }
@@ -88,7 +88,7 @@ pub fn read_within(number: i64, key: Key, low: u64, high: u64) -> Result<u64, Co
     }
 }
 
-/// A whole number from low to high.
+/// Returns the value as a whole number from low to high.
 #[tactic(auto, unfolding(crate::specs::SiteFile::number_in))]
 pub fn number_in(value: &Value, key: Key, low: u64, high: u64) -> Result<u64, ConfigFault>
     ensures said { Gives (λ n. n) result (spec.number_in key low high (view value.now)) }
@@ -98,7 +98,7 @@ pub fn number_in(value: &Value, key: Key, low: u64, high: u64) -> Result<u64, Co
     read_within(number, key, low, high)
 }
 
-/// The whole number from low to high at a key, which must be there.
+/// Returns the whole number from low to high at a key, which must be there.
 #[tactic(auto, unfolding(crate::specs::SiteFile::number_at))]
 pub fn number_at(table: &Table, key: Key, low: u64, high: u64) -> Result<u64, ConfigFault>
     ensures said { Gives (λ n. n) result (spec.number_at key low high (table_view table.now)) }
@@ -108,7 +108,7 @@ pub fn number_at(table: &Table, key: Key, low: u64, high: u64) -> Result<u64, Co
     number_in(value, key, low, high)
 }
 
-/// The list of 1 to `most` members at a key, which must be there.
+/// Returns the list of 1 to `most` members at a key, which must be there.
 #[tactic(auto, using(crate::proofs::Trees::item_count), unfolding(crate::specs::SiteFile::list_at))]
 pub fn list_at(table: &Table, key: Key, most: usize) -> Result<&Array, ConfigFault>
     ensures { Gives (λ a. array_view a.now) result (spec.list_at key most (table_view table.now)) }

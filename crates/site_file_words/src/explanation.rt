@@ -13,9 +13,9 @@ use toml::de::Error;
 /// How many faults are told below the first one.
 const MORE_FAULTS: usize = 20;
 
-/// What is printed below the first line of a site file's fault: the place of the fault, its line,
-/// what was found and what was expected, and below that the other faults that can be found without
-/// it, in the order of the file. Each line ends with a newline. Of want of memory it is empty.
+/// Returns what is printed below the first line of a site file's fault: the place of the fault, its
+/// line, what was found and what was expected, and below that the other faults that can be found
+/// without it, in the order of the file. Each line ends with a newline. For `NoMemory` it is empty.
 pub fn explain_fault(
     alloc: Global,
     octets: &[u8],

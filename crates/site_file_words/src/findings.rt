@@ -1,4 +1,4 @@
-//! All faults of a site file's tree that can be found without each other.
+//! All faults of a site file's tree that can be found independently of each other.
 
 use crate::spots::{Owner, Spot};
 use site_base::{
@@ -17,15 +17,15 @@ const MOST_FINDINGS: usize = 1_000;
 pub enum Why {
     /// A table has a key that isn't one of its keys.
     Unknown,
-    /// A table hasn't this key.
+    /// A table doesn't have this key.
     Missing(Key),
     /// A value isn't of its kind.
     Kind,
     /// A value is out of its range.
     Range,
-    /// A list has too few or too many members, namely so many.
+    /// A list has too few or too many members: this number.
     Members(usize),
-    /// The value stands at an earlier member of the list too, at this place.
+    /// The value is also at an earlier member of the list, at this place.
     Repeated(usize),
     /// No product has this number.
     NoProduct,
@@ -41,7 +41,7 @@ pub struct Finding<'a> {
 }
 
 impl<'a> Finding<'a> {
-    /// The fault's number.
+    /// Returns the fault's number.
     pub fn number(&self) -> u8 {
         match self.why {
             Why::Unknown => 71,
@@ -54,7 +54,7 @@ impl<'a> Finding<'a> {
     }
 }
 
-/// The faults of the file, in the order in which a site file is checked.
+/// Returns the faults of the file, in the order in which a site file is checked.
 pub fn findings_of<'a>(alloc: Global, file: &'a Table) -> Result<Vec<Finding<'a>>, NoMemory> {
     let mut found = Findings::new(alloc);
     found.look_at_file(file)?;

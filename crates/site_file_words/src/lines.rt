@@ -14,12 +14,12 @@ const LINE_CHARACTERS: usize = 120;
 /// The characters that are printed before a place far behind in its line.
 const CHARACTERS_BEFORE: usize = 60;
 
-/// From where to where something goes, in octets of a text.
+/// Where something begins and ends, in octets of a text.
 #[derive(Clone, Copy, Debug)]
 pub struct Span {
     /// Its first octet.
     pub start: usize,
-    /// The octet behind its last one.
+    /// The octet after its last one.
     pub end: usize,
 }
 
@@ -36,7 +36,7 @@ pub struct Position<'a> {
 }
 
 impl<'a> Position<'a> {
-    /// Where this span of the text is.
+    /// Returns where this span of the text is.
     pub fn new(text: &'a [u8], span: Span) -> Self
         ensures line { result.line
             ≡ length (places (is_byte 10) (take span.start text.now)) + 1 }
@@ -62,7 +62,7 @@ impl<'a> Position<'a> {
         }
     }
 
-    /// Appends the line with a mark below the place, and behind it the words.
+    /// Appends the line, and below it a mark at the place, followed by the words.
     pub fn put(&self, text: &mut String, words: &str) -> Result<(), NoMemory> {
         let margin = count_digits(self.line);
         let before = self.column.saturating_sub(1);
@@ -130,7 +130,7 @@ fn front(octets: &[u8], most: usize) -> &[u8]
     }
 }
 
-/// The octets before the first end of a line.
+/// Returns the octets before the first end of a line.
 pub fn front_until_newline(octets: &[u8]) -> &[u8] {
     match memchr(b'\n', octets) {
         Some(place) => &octets[..place.min(octets.len())],

@@ -1,4 +1,4 @@
-//! Where the tables and the keys of a site file stand in its text, which is TOML.
+//! Where the tables and the keys of a site file are in its text, which is TOML.
 
 use crate::lines::Span;
 use crate::spots::{Owner, Spot, is_same_spot};
@@ -9,7 +9,7 @@ use std::alloc::Global;
 /// How many places are kept; a greatest site file has some 1,700.
 const MOST_PLACES: usize = 4_096;
 
-/// Where something stands: its key, and what is at it. A member of a list is both.
+/// Where something is: its key, and its value. For a member of a list both are the same.
 #[derive(Clone, Copy, Debug)]
 pub struct Place<'a> {
     spot: Spot<'a>,
@@ -19,7 +19,7 @@ pub struct Place<'a> {
     pub value: Span,
 }
 
-/// The place of this spot, if the text shows it.
+/// Returns the place of this spot, if the text shows it.
 pub fn find_place<'a>(places: &[Place<'a>], spot: &Spot<'_>) -> Option<Place<'a>> {
     for place in places {
         if is_same_spot(&place.spot, spot) {
@@ -29,7 +29,7 @@ pub fn find_place<'a>(places: &[Place<'a>], spot: &Spot<'_>) -> Option<Place<'a>
     None
 }
 
-/// The places of a text. Of a key that is written with escapes there is none.
+/// Returns the places of a text. A key that is written with escapes has none.
 pub fn places_of(alloc: Global, text: &[u8]) -> Result<Vec<Place<'_>>, NoMemory> {
     let tokens = tokens_of(alloc, text)?;
     let mut scan = Scan::new(alloc, text);

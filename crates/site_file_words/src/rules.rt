@@ -1,4 +1,4 @@
-//! What a site file is to have at each place, in a sentence.
+//! What a site file has to have at each place, as a sentence.
 
 use crate::spots::Owner;
 use site_base::{
@@ -6,7 +6,7 @@ use site_base::{
 };
 use std::fmt;
 
-/// What is to stand somewhere.
+/// What has to be somewhere.
 #[derive(Clone, Copy, Debug)]
 pub enum Rule {
     /// At `rows`.
@@ -33,7 +33,7 @@ pub enum Rule {
     Reading,
 }
 
-/// The rule of a table's key.
+/// Returns the rule of a table's key.
 pub fn rule_of(owner: Owner, key: &[u8]) -> Option<Rule> {
     match (owner, key) {
         (Owner::File, b"rows") => Some(Rule::Rows),
@@ -105,7 +105,7 @@ impl fmt::Display for Rule {
     }
 }
 
-/// The keys of a table, in a sentence.
+/// Returns the keys of a table, as a sentence.
 pub fn keys_of(owner: Owner) -> &'static str {
     match owner {
         Owner::File => "a site file has the keys rows, managers, product and point",

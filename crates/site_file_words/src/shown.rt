@@ -1,11 +1,11 @@
-//! Text of a file as it is printed: a part of it, and no control characters.
+//! Text of a file as it is printed: a part of it, without control characters.
 
 ghost use Rattle.std.specs.Prelude.{◌≤◌};
 
 use std::{fmt, str};
 
-/// Some characters of a text as they are printed: a tab as a space, and another control character,
-/// and what isn't UTF-8, as a question mark.
+/// Some characters of a text as they are printed. A tab becomes a space; any other control
+/// character, and what isn't UTF-8, becomes a question mark.
 #[derive(Clone, Copy, Debug)]
 pub struct Shown<'a> {
     octets: &'a [u8],
@@ -14,7 +14,7 @@ pub struct Shown<'a> {
 }
 
 impl<'a> Shown<'a> {
-    /// The first characters.
+    /// Returns the first characters, at most this many.
     pub fn of_front(octets: &'a [u8], most: usize) -> Self {
         Shown {
             octets,
@@ -23,7 +23,7 @@ impl<'a> Shown<'a> {
         }
     }
 
-    /// The characters from the place `begin` on, before the place `end`.
+    /// Returns the characters from the place `begin` on, before the place `end`.
     pub fn of_part(octets: &'a [u8], begin: usize, end: usize) -> Self {
         Shown { octets, begin, end }
     }
@@ -55,7 +55,7 @@ impl<'a> fmt::Display for Shown<'a> {
     }
 }
 
-/// How many characters of these octets are printed.
+/// Returns how many characters of these octets are printed.
 pub fn count_shown(octets: &[u8]) -> usize {
     match str::from_utf8(octets) {
         Ok(_) => count_characters(octets),
@@ -63,7 +63,7 @@ pub fn count_shown(octets: &[u8]) -> usize {
     }
 }
 
-/// How many characters of UTF-8 begin in these octets.
+/// Returns how many characters of UTF-8 begin in these octets.
 pub fn count_characters(octets: &[u8]) -> usize {
     let mut count = 0usize;
     for octet in octets {

@@ -1,4 +1,4 @@
-//! Where something of a site file stands, as its tree is named.
+//! Where something of a site file is, in terms of its tree.
 
 use crate::shown::Shown;
 use std::fmt;
@@ -15,16 +15,16 @@ pub enum Owner {
     Product(usize),
     /// The nth fuelling point.
     Point(usize),
-    /// A nozzle: the place of its point, and its own there.
+    /// A nozzle: the place of its point, and its own place there.
     Nozzle(usize, usize),
 }
 
-/// A table, what stands at a key of one, or a manager.
+/// A table, the value at a key of one, or a manager.
 #[derive(Clone, Copy, Debug)]
 pub enum Spot<'a> {
     /// A table.
     Whole(Owner),
-    /// What stands at this key of a table.
+    /// The value at this key of a table.
     Value(Owner, &'a [u8]),
     /// The nth manager.
     Manager(usize),

@@ -1,4 +1,5 @@
-//! The text of a site file in pieces: words, texts between quotation marks, marks, ends of lines.
+//! The text of a site file in pieces: words, texts between quotation marks, marks, and ends of
+//! lines.
 
 use crate::lines::{Span, front_until_newline};
 use site_base::NoMemory;
@@ -17,16 +18,16 @@ pub enum TokenKind {
     Mark(u8),
 }
 
-/// A piece, and where it stands.
+/// A piece, and where it is.
 #[derive(Clone, Copy, Debug)]
 pub struct Token {
     /// What it is.
     pub kind: TokenKind,
-    /// From where to where it goes.
+    /// Where it begins and ends.
     pub span: Span,
 }
 
-/// The pieces of a text, without blanks and comments, and an end of a line behind them.
+/// Returns the pieces of a text, without blanks and comments, and at last an end of a line.
 pub fn tokens_of(alloc: Global, text: &[u8]) -> Result<Vec<Token>, NoMemory> {
     let mut tokens = Vec::new(alloc);
     let mut next = count_mark(text);

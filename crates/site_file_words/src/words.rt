@@ -1,4 +1,4 @@
-//! A fault in words: what was found, and what is to stand there.
+//! A fault in words: what was found, and what was expected.
 
 use crate::findings::{Finding, Why};
 use crate::lines::front_until_newline;
@@ -10,12 +10,12 @@ use std::fmt;
 /// The characters of a value that are printed at most.
 const FOUND_CHARACTERS: usize = 40;
 
-/// A fault, with the octets that were found there, where they are known.
+/// A fault, with the octets that were found there, if they are known.
 #[derive(Clone, Copy, Debug)]
 pub struct FaultWords<'a> {
     /// The fault.
     pub finding: Finding<'a>,
-    /// What stands there.
+    /// What was found there.
     pub found: Option<&'a [u8]>,
 }
 
@@ -72,7 +72,7 @@ fn write_rule<W: fmt::Write>(f: &mut fmt::Formatter<W>, rule: Option<Rule>) -> f
     }
 }
 
-/// What has the fault; of a missing key the key itself.
+/// Returns what has the fault; for a missing key the key itself.
 pub fn named_spot<'a>(finding: &Finding<'a>) -> Spot<'a> {
     match finding.why {
         Why::Missing(key) => Spot::Value(owner_of(finding.spot), key.text().as_bytes()),

@@ -10,7 +10,7 @@ use site_base::NoMemory;
 use site_json::time_if;
 use std::alloc::{AllocError, Global};
 
-/// The open gaps of a tally; without one null.
+/// Returns the open gaps of a tally; null without a tally.
 pub fn gaps_value(alloc: Global, tally: Option<&RowTally>) -> Result<Value, NoMemory>
     ensures { IfOk result (λ value. view value ≡ gaps_data (option_copied tally.entry)) }
 {

@@ -1,4 +1,4 @@
-//! Jumps of replaced meters as JSON.
+//! The jumps of replaced meters as JSON.
 
 ghost use Rattle.std.specs.Prelude.{◌≡◌, ◌++◌, map, IfOk, OnOk, option_copied};
 ghost use Rattle.serde_json.specs.View.{view};
@@ -9,7 +9,7 @@ use serde_json::{Value, json};
 use site_base::{NOZZLES, NoMemory};
 use std::alloc::{AllocError, Global};
 
-/// The nozzles whose meters were replaced by rows of a tally; without one null.
+/// Returns the nozzles whose meters were replaced by rows of a tally; null without a tally.
 pub fn jumps_value(alloc: Global, tally: Option<&RowTally>) -> Result<Value, NoMemory>
     ensures { IfOk result (λ value. view value ≡ jumps_data (option_copied tally.entry)) }
 {

@@ -1,6 +1,6 @@
-//! A station as JSON: its site, as `site_json` tells it, and what its rows tell: the open gaps, the
-//! jumps of replaced meters, since when points call and when sales were sold. Its own crate, since
-//! feeds tell rows with `site_json` and none of these.
+//! A station as JSON: its site, as in `site_json`, and what its rows tell: the open gaps, the jumps
+//! of replaced meters, since when points call, and when sales were sold. It is a crate of its own
+//! because feeds use `site_json` and none of this.
 #![tactic(auto)]
 
 mod gaps;

@@ -1,4 +1,4 @@
-//! The moments that rows tell, as JSON.
+//! The times that rows tell, as JSON.
 
 ghost use Rattle.std.specs.Prelude.{◌≡◌, ◌++◌, map, IfOk, OnOk, option_copied};
 ghost use Rattle.serde_json.specs.View.{view};
@@ -15,7 +15,7 @@ use site_json::time_if;
 use stamps::Stamp;
 use std::alloc::{AllocError, Global};
 
-/// The points of a book's site that call, each since when; without a tally null.
+/// Returns the points of a book's site that call, and since when each calls; null without a tally.
 pub fn calling_value(
     alloc: Global,
     book: &SiteBook,
@@ -77,7 +77,7 @@ fn call_value(alloc: Global, p: FpNo, since: &Option<Stamp>) -> Result<Value, Al
     json!(in alloc; {"point": p.get(), "since": since})
 }
 
-/// When each transaction was sold that isn't cleared yet; without a tally null.
+/// Returns when each transaction was sold that isn't cleared yet; null without a tally.
 pub fn sold_value(alloc: Global, tally: Option<&RowTally>) -> Result<Value, NoMemory>
     ensures { IfOk result (λ value. view value ≡ sold_data (option_copied tally.entry)) }
 {

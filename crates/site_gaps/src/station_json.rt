@@ -18,9 +18,9 @@ use site_json::{PeerSession, put_member, site_value, text_if};
 use stamps::Stamp;
 use std::alloc::{AllocError, Global};
 
-/// A station as a text of JSON: its site, as `site_json::site_value` tells it, since when points
-/// call, when sales were sold, the open gaps and the jumps, if there is a tally of its rows, and
-/// the site's name, if it has one.
+/// Returns a station as JSON text: its site, as in `site_json::site_value`; since when points call,
+/// when sales were sold, the open gaps and the jumps, if there is a tally of its rows; and the
+/// site's name, if it has one.
 pub fn station_text(
     alloc: Global,
     book: &SiteBook,

@@ -8,7 +8,7 @@ use serde_json::{Number, Value};
 use stamps::Stamp;
 use std::alloc::{AllocError, Global};
 
-/// A number; without one null.
+/// Returns a number; null for None.
 pub fn figure_if(figure: Option<u64>) -> Value
     ensures { view result ≡ figure_if figure }
 {
@@ -18,7 +18,7 @@ pub fn figure_if(figure: Option<u64>) -> Value
     }
 }
 
-/// A sum of figures; null where it has more than 64 bits.
+/// Returns a sum of figures; null if it has more than 64 bits.
 pub fn sum_value(sum: u128) -> Value
     ensures { view result ≡ sum_data sum }
 {
@@ -28,7 +28,7 @@ pub fn sum_value(sum: u128) -> Value
     }
 }
 
-/// A text; without one null.
+/// Returns a text; null for None.
 pub fn text_if(alloc: Global, text: Option<&str>) -> Result<Value, AllocError>
     ensures { IfOk result (λ value. view value ≡ text_if (option_copied text.entry)) }
 {
@@ -38,7 +38,7 @@ pub fn text_if(alloc: Global, text: Option<&str>) -> Result<Value, AllocError>
     }
 }
 
-/// A time as a text; without one null.
+/// Returns a time as a text; null for None.
 pub fn time_if(alloc: Global, time: &Option<Stamp>) -> Result<Value, AllocError>
     ensures { IfOk result (λ value. view value ≡ text_if time.now) }
 {
@@ -48,7 +48,7 @@ pub fn time_if(alloc: Global, time: &Option<Stamp>) -> Result<Value, AllocError>
     }
 }
 
-/// The same number, wider.
+/// Returns the same number with 64 bits.
 pub fn widen(figure: Option<u32>) -> Option<u64>
     ensures { result ≡ figure }
 {

@@ -1,6 +1,6 @@
-//! A site as JSON, for programs and for the page: what stands at its points, in its products, at
-//! its tills and unpaid, and who is connected. The values are the views of a book's site, their
-//! texts compact.
+//! A site as JSON, for programs and for the page: its points, products, tills and unpaid
+//! transactions, and who is connected. The values are views of a book's site, and their texts are
+//! compact.
 #![tactic(auto)]
 
 mod figures;

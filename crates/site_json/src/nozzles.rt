@@ -13,7 +13,7 @@ use site_base::{FpNo, NoMemory, NozzleEntry, NozzleNo, PointEntry};
 use site_book::SiteBook;
 use std::alloc::{AllocError, Global};
 
-/// The nozzles of a configured point, in their order: nozzle n is the nth.
+/// Returns the nozzles of a configured point, in their order: nozzle n is the nth.
 pub fn nozzle_values(
     alloc: Global,
     book: &SiteBook,

@@ -20,7 +20,7 @@ use site_base::{
 use site_book::SiteBook;
 use std::alloc::{AllocError, Global};
 
-/// The configured points, in their order, beside these sessions.
+/// Returns the configured points, in their order. `sessions` says which dispensers are connected.
 pub fn point_values(
     alloc: Global,
     book: &SiteBook,
@@ -107,7 +107,7 @@ fn fuelling_value(alloc: Global, shown: &PointView) -> Result<Value, AllocError>
     })
 }
 
-/// The name of a state.
+/// Returns the name of a state.
 pub fn state_word(state: PointState) -> &'static str
     ensures { result.now ≡ state_word state }
 {

@@ -14,15 +14,15 @@ use std::alloc::{AllocError, Global};
 /// A session of a peer whose node is known.
 #[derive(Clone, Copy, Debug)]
 pub struct PeerSession {
-    /// Subnet and node.
+    /// Its subnet and its node.
     pub node: [u8; 2],
     /// When the peer came, if the time was known.
     pub since: Option<Stamp>,
-    /// So many whole seconds have passed since something came from it.
+    /// The whole seconds since something came from it.
     pub quiet_seconds: u64,
 }
 
-/// These sessions, in their order.
+/// Returns these sessions, in their order.
 pub fn session_values(alloc: Global, sessions: &[PeerSession]) -> Result<Vec<Value>, NoMemory>
     ensures { IfOk result (λ values. map view values.items ≡ sessions_data sessions.now) }
 {
@@ -46,7 +46,7 @@ fn session_value(alloc: Global, session: &PeerSession) -> Result<Value, AllocErr
     })
 }
 
-/// Has the dispenser of a point one of these sessions?
+/// Does one of these sessions belong to the dispenser of this point?
 pub fn is_connected(sessions: &[PeerSession], p: FpNo) -> bool
     ensures { result ≡ is_connected sessions.now p }
 {

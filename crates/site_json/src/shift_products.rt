@@ -12,8 +12,8 @@ use site_base::{NoMemory, ProductEntry, ProductNo};
 use site_book::SiteBook;
 use std::alloc::{AllocError, Global};
 
-/// These products, in their order, each with its figures of a shift: the millilitres that were
-/// cleared, their cents, and the millilitres that tests drew.
+/// Returns these products, in their order, each with its figures of a shift: the millilitres that
+/// were cleared, their cents, and the millilitres that tests drew.
 pub fn shift_product_values(
     alloc: Global,
     products: &[ProductEntry],

@@ -12,7 +12,8 @@ use site_base::{NoMemory, TILL_CELLS, TillNo};
 use site_book::SiteBook;
 use std::alloc::{AllocError, Global};
 
-/// The tills that a site may have: whether each is signed on, and its clears in the open shift.
+/// Returns the tills that a site may have: whether each is signed on, and its clears in the open
+/// shift.
 pub fn till_values(alloc: Global, book: &SiteBook) -> Result<Vec<Value>, NoMemory>
     ensures { IfOk result (λ values.
         map view values.items ≡ tills_data (site_of_book book.now)) }

@@ -15,7 +15,7 @@ use site_book::NamedSale;
 use std::alloc::{AllocError, Global};
 use transaction_buffer::Standing;
 
-/// These transactions, in their order.
+/// Returns these transactions, in their order.
 pub fn transaction_values(alloc: Global, sales: &[NamedSale]) -> Result<Vec<Value>, NoMemory>
     ensures { IfOk result (λ values.
         map view values.items ≡ transactions_data sales.now) }
@@ -27,7 +27,7 @@ pub fn transaction_values(alloc: Global, sales: &[NamedSale]) -> Result<Vec<Valu
     Ok(values)
 }
 
-/// The transactions of a point among these, in their order.
+/// Returns the transactions of a point among these, in their order.
 pub fn transaction_values_at(
     alloc: Global,
     sales: &[NamedSale],
@@ -91,7 +91,7 @@ fn back_of(sold: &NamedSale) -> u64
     }
 }
 
-/// The name of a status.
+/// Returns the name of a status.
 pub fn status_word(standing: &Standing) -> &'static str
     ensures { result.now ≡ status_word (status_of standing.now) }
 {
@@ -113,7 +113,7 @@ fn till_of(standing: &Standing) -> Option<u64>
     }
 }
 
-/// The cents of these transactions, in all.
+/// Returns the sum of the cents of these transactions.
 pub fn cents_of(sales: &[NamedSale]) -> u128
     ensures { result ≡ cents_of sales.now }
 {
@@ -124,7 +124,7 @@ pub fn cents_of(sales: &[NamedSale]) -> u128
     cents
 }
 
-/// What is due of these transactions, in all.
+/// Returns the sum of what is due of these transactions, in cents.
 pub fn dues_of(sales: &[NamedSale]) -> u128
     ensures { result ≡ dues_of sales.now }
 {

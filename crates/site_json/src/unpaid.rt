@@ -11,8 +11,8 @@ use site_base::{FpNo, NoMemory};
 use site_book::NamedSale;
 use std::alloc::Global;
 
-/// Of these transactions, which the caller has found unpaid, those of this point, or all, as a text
-/// of JSON: a list as in `site_text`, in the same order.
+/// Returns unpaid transactions as JSON text: of those that the caller has found unpaid, the ones of
+/// this point, or all for None. It is a list as in `site_text`, in the same order.
 pub fn unpaid_text(
     alloc: Global,
     unpaid: &[NamedSale],

@@ -28,11 +28,11 @@ use site_book::{NamedSale, SiteBook};
 use stamps::Stamp;
 use std::alloc::{AllocError, Global};
 
-/// The site of a book at this time, if it is known: its points, its products with the figures of a
-/// read, its tills with their clears in the open shift, that shift and its products, how many rows
-/// there are; with these transactions, which the caller has found unpaid, and what is due of them,
-/// so many connections, these sessions, and of its history, if there is one, the time of the open
-/// shift's first row and the last seal.
+/// Returns the site of a book: its points, its products with the figures of a read, its tills with
+/// their clears in the open shift, that shift and its products, and the number of rows. It also has
+/// the time `at`, if it is known; the transactions that the caller has found unpaid, with what is
+/// due of them; the number of connections; and these sessions. Of the history, if there is one, it
+/// has the time of the open shift's first row and the last seal.
 pub fn site_value(
     alloc: Global,
     book: &SiteBook,
@@ -75,7 +75,7 @@ pub fn site_value(
     Ok(with_dues(alloc, site, shift, due)?)
 }
 
-/// The same as a text.
+/// Returns the same as a text.
 pub fn site_text(
     alloc: Global,
     book: &SiteBook,
@@ -152,7 +152,7 @@ fn with_dues(
     Ok(Value::Object(members))
 }
 
-/// Puts a member among those of an object, at the place of its name.
+/// Puts a member among the members of an object, at the place of its name.
 pub fn put_member(
     alloc: Global,
     members: &mut Map<String, Value>,

@@ -15,11 +15,11 @@ pub const VERSION: &str = "0.1.0";
 /// What a running station counts beside its book.
 #[derive(Clone, Copy, Debug, PartialEq, Eq)]
 pub struct StationCounts {
-    /// The connections of its peers.
+    /// The number of its peers' connections.
     pub connections: usize,
-    /// The peers of its feed.
+    /// The number of its feed's peers.
     pub feeds: usize,
-    /// The chapters of its history, if it has one.
+    /// The number of its history's chapters, if it has one.
     pub chapters: Option<u64>,
     /// The seconds since a round ended with a seal, if one has since the start.
     pub seal_seconds: Option<u64>,
@@ -30,16 +30,16 @@ pub struct StationCounts {
 /// How often rows were stored, and how long that took.
 #[derive(Clone, Copy, Debug, PartialEq, Eq)]
 pub struct StoreTimes {
-    /// So often.
+    /// How often.
     pub count: u64,
-    /// All together, in microseconds.
+    /// The sum of their durations, in microseconds.
     pub sum: u64,
-    /// The longest, in microseconds.
+    /// The longest duration, in microseconds.
     pub greatest: u64,
 }
 
 impl StoreTimes {
-    /// Nothing was stored yet.
+    /// Returns the times of a station that has stored nothing yet.
     pub fn new() -> StoreTimes
         ensures { result ≡ record { count = 0; sum = 0; greatest = 0 } }
     {
@@ -50,7 +50,7 @@ impl StoreTimes {
         }
     }
 
-    /// Rows were stored once more, which took so many microseconds.
+    /// Notes one more store, which took this many microseconds.
     pub fn note(&mut self, microseconds: u64) {
         self.count = self.count.saturating_add(1);
         self.sum = self.sum.saturating_add(microseconds);

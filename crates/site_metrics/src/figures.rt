@@ -35,8 +35,9 @@ const STATES: [PointState; 9] = [
     PointState::SuspendedFuelling,
 ];
 
-/// The figures of a book, with these transactions, which the caller has found unpaid, what the
-/// station counts, these sessions, and what the tally of its rows tells, if there is one.
+/// Returns the figures of a book as OpenMetrics text, with the transactions that the caller has
+/// found unpaid, what the station counts, these sessions, and the tally of its rows, if there is
+/// one.
 pub fn metrics_text(
     alloc: Global,
     book: &SiteBook,

@@ -1,4 +1,4 @@
-//! Whose a session is.
+//! To which kind of node a session belongs.
 
 ghost use Rattle.std.specs.Prelude.{◌≡◌};
 ghost use Rattle.device_map.specs.declared.ids.TheConstants.{DISPENSER_SUBNET, TILL_SUBNET};

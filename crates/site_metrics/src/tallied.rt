@@ -1,4 +1,4 @@
-//! What a tally of rows tells: how many were refused, and how many gaps are open.
+//! What a tally of rows tells: how many rows were refused, and how many gaps are open.
 
 ghost use Rattle.std.specs.Prelude.{◌≡◌, ◌++◌, OnOk, flat_map, option_copied, string_bytes};
 ghost use Rattle.site_metrics.specs.Tallied.{gaps_line, gaps_text, refusal_line, refusal_text};

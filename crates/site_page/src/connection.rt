@@ -17,17 +17,17 @@ const MOST_OWED: usize = 16_384;
 /// The longest body of a request. None is looked at.
 const MOST_BODY: usize = 1_024;
 
-/// A connection of HTTP/1.1 as steps over octets. While it owes nothing, and isn't over, it hears
-/// what the peer sends; what it owes is sent, and taken from it; then it is asked to go on, by
-/// hearing nothing, since what it heard may have more requests. So a peer that asks without end is
-/// never owed much. Contracts see its `history`.
+/// A connection of HTTP/1.1 as steps over octets. While it has no pending octets, and isn't over,
+/// it hears what the peer sends. Its pending octets are sent, and taken from it. Then its caller
+/// lets it hear no octets once, because what it heard before may have more requests. So a peer that
+/// asks without end never has much pending output. Contracts see its `history`.
 #[derive(Drop)]
 pub struct PageConnection {
     connection: Connection,
 }
 
 impl PageConnection {
-    /// The connection of a peer that has said nothing. It takes no memory.
+    /// Returns the connection of a peer that has sent nothing. It takes no memory.
     pub fn new(alloc: Global, keys: RandomState) -> Self
         ensures { history result ≡ new_history }
     {
@@ -41,9 +41,9 @@ impl PageConnection {
         }
     }
 
-    /// Hears octets of the peer, and answers each request that is whole by this page. Returns how
-    /// many it heard: none where something is owed, or the connection ends. After `NoMemory` the
-    /// connection is to be dropped.
+    /// Hears octets of the peer, and answers each whole request by this page. Returns how many
+    /// octets it heard: none if there are pending octets, or if the connection ends. Drop the
+    /// connection after `NoMemory`.
     #[tactic(auto, using(crate::proofs::Calls::none_answered, crate::proofs::Calls::none_heard))]
     pub fn hear(&mut self, octets: &[u8], page: &Page<'_>) -> Result<usize, NoMemory>
         ensures heard { IfOk result (λ count.
@@ -60,21 +60,21 @@ impl PageConnection {
         Ok(heard)
     }
 
-    /// Is anything owed?
+    /// Are there pending octets?
     pub fn owes(&self) -> bool
         ensures { IsTrue result ↔ (0 < length (history self.now).pending) }
     {
         self.connection.wants_write()
     }
 
-    /// The next octets that are owed: some, where any are.
+    /// Returns the next pending octets: at least one if there are any.
     pub fn owed(&self) -> &[u8]
         ensures { IsChunkOf result.now (history self.now).pending }
     {
         self.connection.output()
     }
 
-    /// That so many of the octets that are owed were sent.
+    /// Notes that this many of the pending octets were sent.
     pub fn take(&mut self, count: usize)
         requires { count ≤ length (history self.old).pending }
         ensures history { history self.new ≡ after_sent (history self.old) count }
@@ -83,14 +83,15 @@ impl PageConnection {
         self.connection.sent(count);
     }
 
-    /// Is the connection to be closed? It owes nothing then.
+    /// Is the connection over, so that it has to be closed? Then it has no pending octets.
     pub fn is_over(&self) -> bool
         ensures { IsTrue result ↔ IsDone (history self.now) }
     {
         self.connection.is_done()
     }
 
-    /// What it sent and owes answers what it heard, whatever came and however it was cut.
+    /// States that what it sent, with its pending octets, answers what it heard, whatever came and
+    /// however it was cut.
     pub fn is_served(&self)
         ensures { ∥ IsServed (limits_of self.now) (history self.now) ∥₁ }
     {}

@@ -1,7 +1,7 @@
-//! The page: one file without anything from elsewhere. What it shows of the site it writes as text,
-//! by `textContent` alone.
+//! The page: one file that needs nothing from elsewhere. It shows data of the site only as text, by
+//! `textContent`.
 
-/// What `GET /` is answered.
+/// The answer to `GET /`.
 pub const PAGE: &str = r##"<!doctype html>
 <html lang="en">
 <head>

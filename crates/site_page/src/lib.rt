@@ -1,8 +1,8 @@
-//! The page for the person at the counter, over HTTP/1.1: what stands on the forecourt, looked at
-//! anew each second. It changes nothing: it is lent the book, and answers with what it reads.
+//! The page for the person at the counter, over HTTP/1.1: the state of the forecourt, read anew
+//! each second. The page changes nothing: it is lent the book, and answers with what it reads.
 //!
-//! A `PageConnection` is one peer's connection as steps over octets: it hears octets, owes octets,
-//! and is over. Its caller moves them.
+//! A `PageConnection` is the connection of one peer, as steps over octets: it hears octets, has
+//! pending octets, and is over. Its caller moves them.
 #![tactic(auto)]
 
 mod connection;

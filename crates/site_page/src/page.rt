@@ -30,7 +30,7 @@ use stamps::Stamp;
 use std::alloc::{AllocError, Global};
 use std::marker::Model;
 
-/// What requests are answered from: it is lent for a round, and makes only what is asked for.
+/// What requests are answered from. It is lent for a round, and makes only what is asked for.
 #[derive(Drop)]
 pub struct Page<'a> {
     alloc: Global,
@@ -65,10 +65,10 @@ impl<'a> Model for Page<'a> {
 }
 
 impl<'a> Page<'a> {
-    /// The page of a book's site at this time, if it is known, with these transactions, which the
-    /// caller has found unpaid, what the station counts, these sessions, of its history the time of
-    /// the open shift's first row and the last seal, the tally of its rows, if there is one, and
-    /// the site's name, if it has one.
+    /// Returns the page of a book's site. `at` is the current time, if it is known. `unpaid` are
+    /// the transactions that the caller has found unpaid, `counts` is what the station counts. Of
+    /// the history, `opened` is the time of the open shift's first row, `seal` the last seal,
+    /// `tally` the tally of its rows, if there is one. `name` is the site's name, if it has one.
     pub fn new(
         alloc: Global,
         book: &'a SiteBook,

@@ -1,7 +1,8 @@
-//! What the page may do, as browsers hold it to.
+//! What the browser lets the page do.
 
-/// It runs its own script and its own style, known by their SHA-256, asks the site that it comes
-/// from, and nothing else. `scripts/test page` says so where the page has changed and a sum hasn't.
+/// The page runs its own script and its own style, which are known by their SHA-256, asks the site
+/// that it comes from, and nothing else. `scripts/test page` reports a sum that doesn't match the
+/// page.
 pub const POLICY: &str = concat!(
     "default-src 'none'; base-uri 'none'; form-action 'none'; frame-ancestors 'none'; ",
     "connect-src 'self'; ",

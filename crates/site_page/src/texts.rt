@@ -1,4 +1,5 @@
-//! Answers that are texts: JSON, or one line. They aren't kept, and are what they say they are.
+//! Answers that are texts: JSON, or one line. Browsers don't keep them, and take them only for what
+//! their type says.
 
 ghost use Rattle.std.specs.Prelude.{◌≡◌, [], OnOk, string_bytes};
 ghost use Rattle.http_server.specs.Response.{IsBlank, IsResponse, fields_of};

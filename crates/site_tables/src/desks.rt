@@ -1,5 +1,6 @@
-//! Tables run at desks: one desk for each site, at which one share submits the events. Of the lines
-//! that ask a site something else only `leave` is answered, since a desk doesn't show the others.
+//! Tables that are run at desks: one desk for each site, at which one share submits the events. Of
+//! the lines that ask a site something else only `leave` is answered, because a desk doesn't show
+//! the others.
 
 mod counter;
 

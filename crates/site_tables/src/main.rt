@@ -1,7 +1,7 @@
-//! Tables of cases in words: `site_tables WORD < lines` runs them and prints what they say. The
-//! word is `sites` (each paragraph of events run at a site and its book; so too without a word),
-//! `desk` (the same events submitted at a desk) or `scripts` (scripts of demos, read).
-//! docs/PROGRAM.md has the grammar.
+//! Tables of cases in words: `site_tables WORD < lines` runs them and prints the results. The word
+//! is `sites` (each paragraph of events is run at a site and its book; this is also done without a
+//! word), `desk` (the same events are submitted at a desk) or `scripts` (scripts of demos are
+//! read). docs/PROGRAM.md has the grammar.
 #![tactic(auto)]
 
 mod desks;

@@ -1,7 +1,7 @@
-//! Tables of scripts, in which a line `== NAME` begins a case, and
-//! the lines up to the next one are its script. Of each case a line is printed: what the script
-//! has, or its fault. `== NAME cr` ends each line of the script with a carriage return too, `==
-//! NAME cut` leaves out the last line feed, and `== NAME comment N` adds a comment of N octets.
+//! Tables of scripts, in which a line `== NAME` begins a case, and the lines up to the next one are
+//! its script. For each case a line is printed: what the script has, or its fault. `== NAME cr`
+//! ends each line of the script with a carriage return too, `== NAME cut` leaves out the last line
+//! feed, and `== NAME comment N` adds a comment of N octets.
 
 mod case;
 

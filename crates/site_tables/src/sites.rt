@@ -11,7 +11,7 @@ use anyhow::Context;
 use std::alloc::Global;
 use std::marker::Model;
 
-/// Does the steps of a table, and prints what each shows.
+/// Does the steps of a table, and prints the result of each.
 pub fn run_sites(rt: &(impl Print + Eprint), alloc: Global, steps: &[Step]) -> anyhow::Result<()> {
     let mut table = Table::new(alloc);
     for step in steps {

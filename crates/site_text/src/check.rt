@@ -1,4 +1,4 @@
-//! A configuration's text that is read back before it is given away.
+//! The text of a configuration, which is read back before it is returned.
 
 ghost use Rattle.std.specs.Prelude.{◌≡◌, IfOk, Ok, string_bytes};
 ghost use Rattle.site_file.specs.SiteFile.{config_of};
@@ -11,13 +11,13 @@ use site_file::{ConfigFault, read_config};
 use std::alloc::Global;
 use thiserror::Error;
 
-/// Why a configuration's text isn't given away.
+/// Why the text of a configuration isn't returned.
 #[derive(Clone, Copy, Debug, PartialEq, Eq, Error)]
 pub enum TextFault {
     /// An allocation failed.
     #[error("out of memory")]
     NoMemory,
-    /// The text isn't read back as the configuration.
+    /// The text isn't read back as the same configuration.
     #[error("the text of the site file isn't read back as the same site")]
     ReadOtherwise,
 }
@@ -33,8 +33,8 @@ impl From<NoMemory> for TextFault {
     }
 }
 
-/// The text of a site file that says this configuration whole. It was read as a site file is, and
-/// gave the same configuration. Fails with `ReadOtherwise` where it didn't.
+/// Returns the text of a site file with this complete configuration, after reading it back as a
+/// site file. `ReadOtherwise` if that didn't give the same configuration.
 pub fn checked_text(alloc: Global, config: &SiteConfig) -> Result<String, TextFault>
     ensures text { IfOk result (λ text. string_bytes text ≡ site_text config.now) }
     ensures read { IfOk result (λ text. config_of (string_bytes text) ≡ Ok config.now) }

@@ -9,8 +9,8 @@ ghost use Rattle.site_text.specs.SiteText.{site_text};
 use site_base::{NoMemory, NozzleEntry, PointEntry, ProductEntry, SiteConfig, TillNo};
 use std::alloc::Global;
 
-/// The text of a site file that says this configuration whole: its rows, its managers, each product
-/// with its price, and each fuelling point with the reading of each nozzle.
+/// Returns the text of a site file with this complete configuration: its rows, its managers, each
+/// product with its price, and each fuelling point with the reading of each nozzle.
 pub fn site_text(alloc: Global, config: &SiteConfig) -> Result<String, NoMemory>
     ensures { IfOk result (λ text. string_bytes text ≡ site_text config.now) }
 {

@@ -1,11 +1,11 @@
-//! A clock that tells times as stamps.
+//! A clock that gives times as stamps.
 
 use crate::stamp::Stamp;
 use jiff::Timestamp;
 use std::alloc::Global;
 use std::time::{Clock, SystemTime};
 
-/// A clock that tells times as stamps. Those of one millisecond are spelled once.
+/// A clock that gives times as stamps. The stamp of one millisecond is written only once.
 #[derive(Clone, Copy, Debug)]
 pub struct StampClock {
     millisecond: Option<i64>,
@@ -13,7 +13,7 @@ pub struct StampClock {
 }
 
 impl StampClock {
-    /// A clock that hasn't been looked at.
+    /// Returns a clock that hasn't been read.
     pub fn new() -> StampClock {
         StampClock {
             millisecond: None,
@@ -21,8 +21,8 @@ impl StampClock {
         }
     }
 
-    /// What time it is, its milliseconds cut; None where the system's clock doesn't tell, or the
-    /// year has no four digits.
+    /// Returns the current time, cut to milliseconds; None if the system's clock doesn't tell it,
+    /// the year doesn't have four digits, or memory runs out.
     pub fn read<C: Clock>(&mut self, alloc: Global, clock: &C) -> Option<Stamp> {
         let now = SystemTime::now(clock).ok()?;
         let time = Timestamp::try_from(now).ok()?;

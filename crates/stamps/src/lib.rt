@@ -1,5 +1,5 @@
-//! The times of a history: a stamp is the line of one, and times never fall. Times as an operator
-//! types them, and spans of time.
+//! The times of a history. A stamp is the time on a line, and times never fall. The crate also has
+//! times as an operator types them, and spans of time.
 #![tactic(auto)]
 
 mod clock;

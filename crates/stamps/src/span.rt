@@ -5,7 +5,7 @@ ghost use Rattle.stamps.specs.Stamps.{is_between, is_not_after, is_not_before};
 
 use crate::stamp::Stamp;
 
-/// A span of time, both ends included. An end that isn't there leaves it open.
+/// A span of time, both ends included. A missing end leaves it open.
 #[derive(Clone, Copy, Debug, PartialEq, Eq)]
 pub struct TimeSpan {
     /// Its first time.
@@ -15,7 +15,7 @@ pub struct TimeSpan {
 }
 
 impl TimeSpan {
-    /// Does this time lie in it?
+    /// Is this time in it?
     pub fn contains(&self, time: &Stamp) -> bool
         ensures { result ≡ is_between self.now.from self.now.to time.now }
     {

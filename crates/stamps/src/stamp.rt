@@ -12,7 +12,7 @@ use std::marker::Model;
 /// The form of a stamp; a digit stands for any one up to it.
 const STAMP_FORM: &[u8; 24] = b"9999-19-39T29:59:59.999Z";
 
-/// What the line of a stamp begins with.
+/// The beginning of a stamp's line.
 pub const AT_MARK: &[u8] = b"# at ";
 
 /// A time, UTC in milliseconds, in RFC 3339: 24 octets. Their order is that of the times.
@@ -35,7 +35,7 @@ impl Model for Stamp {
 }
 
 impl Stamp {
-    /// Octets as a stamp, where they have the form of one.
+    /// Returns these octets as a stamp, if they have the form of one.
     pub fn parse(octets: &[u8]) -> Option<Stamp>
         ensures { result ≡ as_stamp octets.now }
     {
@@ -57,7 +57,7 @@ impl Stamp {
         }
     }
 
-    /// Its octets.
+    /// Returns its octets.
     pub fn as_octets(&self) -> &[u8]
         ensures octets { result.now ≡ self.now }
         ensures form { is_stamp self.now ≡ true }
@@ -65,7 +65,7 @@ impl Stamp {
         &self.octets
     }
 
-    /// Its octets as text.
+    /// Returns its octets as text.
     pub fn as_str(&self) -> &str
         ensures text { result.now ≡ self.now }
         ensures form { is_stamp self.now ≡ true }
@@ -84,7 +84,7 @@ impl Stamp {
     }
 }
 
-/// The time that a line tells, if it tells one.
+/// Returns the time on a line, if it has one.
 pub fn stamp_in(line: &[u8]) -> Option<Stamp>
     ensures { result ≡ stamp_in line.now }
 {
@@ -105,7 +105,7 @@ pub fn is_later(last: Option<Stamp>, time: &Stamp) -> bool
     }
 }
 
-/// The later of the last time, if there is one, and this one.
+/// Returns the later of the last time, if there is one, and this one.
 pub fn later(last: Option<Stamp>, time: Stamp) -> Option<Stamp>
     ensures { result ≡ later last time }
 {
@@ -121,7 +121,7 @@ pub fn later(last: Option<Stamp>, time: Stamp) -> Option<Stamp>
     }
 }
 
-/// The time behind a line, behind the last time: times never fall.
+/// Returns the time after a line, where `last` is the last time before it. Times never fall.
 pub fn time_after(line: &[u8], last: Option<Stamp>) -> Option<Stamp>
     ensures { result ≡ time_after line.now last }
 {

@@ -7,12 +7,13 @@ use std::alloc::{AllocError, Global};
 /// A date alone has so many octets: 2026-11-27.
 const DATE_OCTETS: usize = 10;
 
-/// The time that is typed; of a date alone its first millisecond. None where it is no time.
+/// Returns the time that was typed; for a date alone its first millisecond. None if it isn't a
+/// time.
 pub fn first_time(alloc: Global, typed: &str) -> Result<Option<Stamp>, AllocError> {
     typed_time(alloc, typed, "T00:00:00.000Z")
 }
 
-/// The time that is typed; of a date alone its last millisecond. None where it is no time.
+/// Returns the time that was typed; for a date alone its last millisecond. None if it isn't a time.
 pub fn last_time(alloc: Global, typed: &str) -> Result<Option<Stamp>, AllocError> {
     typed_time(alloc, typed, "T23:59:59.999Z")
 }

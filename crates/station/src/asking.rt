@@ -1,4 +1,4 @@
-//! A request at the station's book, and who is told of its row.
+//! Asks the station's book a request, and sends notices of its row.
 
 ghost use Rattle.std.specs.Prelude.{◌≡◌, ◌≤◌, length, None, Some, map, option_map};
 ghost use Rattle.site_base.specs.Events.{point_named};

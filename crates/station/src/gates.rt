@@ -1,4 +1,4 @@
-//! Who may speak where: doors, each of one node, and the house till, for which nobody speaks.
+//! Who may speak where: doors, each for one node, and the house till, for which nobody may speak.
 
 ghost use Rattle.std.specs.Prelude.{◌≡◌, ◌<◌, ◌≤◌, length, Some, IfNone, IfOk, IfSome, OnErr};
 ghost use Rattle.std.specs.Prelude.{option_map, slice_get};
@@ -15,8 +15,8 @@ use site_base::{NoMemory, TillNo};
 use std::alloc::Global;
 use std::marker::Model;
 
-/// The nodes that have doors, and the house till. A node that has a door speaks through it alone;
-/// for the house till nobody speaks.
+/// The nodes that have doors, and the house till. A node with a door speaks only through it. Nobody
+/// may speak for the house till.
 #[derive(Drop)]
 pub struct Gates {
     doors: Vec<[u8; 2]>,
@@ -40,14 +40,14 @@ impl Model for Gates {
 pub enum Admission {
     /// It is.
     Welcome,
-    /// It may not speak there: it is told so.
+    /// It may not speak there, and it is told so.
     Barred,
-    /// It has as many sessions as a node has at once.
+    /// Its node has as many sessions as a node may have at once.
     Crowded,
 }
 
 impl Gates {
-    /// No doors, and no house till. It takes no memory.
+    /// Returns no doors, and no house till. It takes no memory.
     pub fn new(alloc: Global) -> Gates
         ensures { result ≡ open_gates }
     {
@@ -57,8 +57,8 @@ impl Gates {
         }
     }
 
-    /// One more door, of this node: its place among the doors. None where 96 are there; then, and
-    /// where memory is wanting, nothing changes.
+    /// Adds a door for this node, and returns its place among the doors. Returns None if there are
+    /// 96 doors. Nothing changes then, or if memory runs out.
     pub fn add_door(&mut self, node: [u8; 2]) -> Result<Option<usize>, NoMemory>
         ensures added { IfOk result (λ place. IfSome place (λ at.
             (at ≡ length self.old.doors) × (self.new ≡ with_door node self.old))) }
@@ -74,21 +74,21 @@ impl Gates {
         Ok(Some(place))
     }
 
-    /// The house till is this one.
+    /// Sets the house till.
     pub fn set_house(&mut self, till: TillNo)
         ensures { self.new ≡ record self.old { house = Some till } }
     {
         self.house = Some(till);
     }
 
-    /// The house till, if there is one.
+    /// Returns the house till, if there is one.
     pub fn house(&self) -> Option<TillNo>
         ensures { result ≡ self.now.house }
     {
         self.house
     }
 
-    /// The node of the door at a place among them.
+    /// Returns the node of the door at a place among them.
     pub fn door(&self, place: usize) -> Option<[u8; 2]>
         ensures node { result ≡ slice_get self.now.doors place }
         ensures few { IfSome result (λ _. place < DOORS) }
@@ -100,7 +100,7 @@ impl Gates {
         }
     }
 
-    /// How many doors there are.
+    /// Returns the number of doors.
     pub fn door_count(&self) -> usize
         ensures count { result ≡ length self.now.doors }
         ensures most { result ≤ DOORS }

@@ -1,4 +1,4 @@
-//! What a peer's octets do to its session, to the book, and to those who listen.
+//! What a peer's octets do to its session, to the book, and to the peers that listen.
 
 ghost use Rattle.std.specs.Prelude.{◌≡◌, ◌++◌, Bool, None, Some, OnOk, OnErr};
 ghost use Rattle.app_message.specs.Spelling.{spelling};

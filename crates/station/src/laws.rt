@@ -11,17 +11,17 @@ ghost use Rattle.station.specs.Neighbours.{TheStationActsAloneSo};
 ghost use Rattle.station.specs.Owing.{OwedIsBounded};
 
 /// A peer is told its story: the session text of what was heard of it, with the answers that its
-/// requests were given, and between the notices of its point, each in its place.
+/// requests were given, and the notices of its point in between, each in its place.
 pub fn each_peer_is_told_its_story()
     ensures { EachPeerIsToldItsStory }
 {}
 
-/// What a peer was told stays the front of its text, whatever comes until it leaves.
+/// What a peer was sent stays a prefix of its text, whatever comes until it leaves.
 pub fn what_was_told_stays()
     ensures { WhatWasToldStays }
 {}
 
-/// What a peer is owed is bounded, whatever it sends, and whether or not it takes anything.
+/// A peer's pending output is bounded, whatever it sends, and whether or not it takes anything.
 pub fn owed_is_bounded()
     ensures { OwedIsBounded }
 {}
@@ -31,17 +31,17 @@ pub fn rows_are_one_history()
     ensures { RowsAreOneHistory }
 {}
 
-/// The end of a session leaves its till.
+/// The end of a session signs off its till.
 pub fn ends_leave_their_till()
     ensures { EndsLeaveTheirTill }
 {}
 
-/// A peer that is gone leaves its till.
+/// A peer that leaves signs off its till.
 pub fn peers_leave_their_till()
     ensures { PeersLeaveTheirTill }
 {}
 
-/// Each till that is signed on has a session that lasts.
+/// Each till that is signed on has an active session.
 pub fn tills_have_sessions()
     ensures { TillsHaveSessions }
 {}
@@ -51,19 +51,19 @@ pub fn requests_are_asked_in_order()
     ensures { RequestsAreAskedInOrder }
 {}
 
-/// Whatever moves came before, a station whose book has room for the rows of one read answers none
-/// of its requests that the book is full.
+/// Whatever moves came before, if the station's book has room for the rows of one read, none of its
+/// requests is answered that the book is full.
 pub fn stations_are_never_full()
     ensures { StationsAreNeverFull }
 {}
 
-/// What a dispenser that comes back is told are changes of its point.
+/// What a dispenser is sent when it comes back are changes of its point.
 pub fn standing_notices_are_changes()
     ensures { StandingNoticesAreChanges }
 {}
 
-/// A dispenser that comes back, with its nozzle as it last reported it, knows with what it is told
-/// what one knows that has listened since the day's beginning.
+/// A dispenser that comes back with its nozzle as it last reported it knows, with what it is sent,
+/// what a dispenser knows that has listened since the day's beginning.
 pub fn standing_notices_tell_what_was_missed()
     ensures { StandingNoticesTellWhatWasMissed }
 {}
@@ -74,13 +74,13 @@ pub fn rows_come_through_their_door()
     ensures { RowsComeThroughTheirDoor }
 {}
 
-/// What no session asked for are sign-offs, the house till's rows at released points, and Offline
-/// of dispensers without a session.
+/// The rows that no session asked for are sign-offs, the house till's rows at released points, and
+/// Offline of dispensers without a session.
 pub fn the_station_acts_alone_so()
     ensures { TheStationActsAloneSo }
 {}
 
-/// The requests of a stream are at most a tenth of its octets.
+/// The number of requests in a stream is at most a tenth of the number of its octets.
 pub fn requests_cost_octets()
     ensures { RequestsCostOctets }
 {}
@@ -90,8 +90,8 @@ pub fn doors_stay_open()
     ensures { DoorsStayOpen }
 {}
 
-/// The end of a session signs off at most the till that it signed on last, and that nobody has
-/// signed off since.
+/// The end of a session signs off at most the till that it signed on last, if nobody has signed
+/// that off since.
 pub fn ends_spare_tills_of_others()
     ensures { EndsSpareTillsOfOthers }
 {}

@@ -1,13 +1,14 @@
 //! The station without its devices: the sessions of all its peers over one book.
 //!
-//! A `Station` owns a book. Peers arrive, their octets are heard, what they are owed is taken, they
-//! leave: each move is exact (`specs/Moves.antt`, over `specs/Sessions.antt` for one session). A
-//! session is the one of till_session. Beside its session text the peer of a dispenser is told
-//! notices: what stands at its point behind its first message, and from then on each change there.
+//! A `Station` owns a book. Peers arrive, their octets are heard, their pending output is taken,
+//! and they leave. Each move is exact (`specs/Moves.antt`, over `specs/Sessions.antt` for one
+//! session). A session is that of `till_session`. Besides the text of its session a dispenser's
+//! peer is sent notices: after its first message those that describe the state of its point, and
+//! from then on each change there.
 //!
 //! The laws (`specs/Laws.antt`) hold over every list of moves: a peer is told its story
 //! (`specs/Stories.antt`), the rows are one history, requests are asked in the order in which they
-//! are heard, and the end of a session leaves its till.
+//! are heard, and the end of a session signs off its till.
 #![tactic(auto)]
 
 mod asking;

@@ -1,4 +1,4 @@
-//! What a peer is owed.
+//! A peer's pending output.
 
 ghost use Rattle.std.specs.Prelude.{◌≡◌, ◌≤◌, [], ◌++◌, drop, length, IfOk, OnOk, OnErr};
 ghost use Rattle.std.specs.Prelude.{vec_capacity};
@@ -9,8 +9,8 @@ use site_base::NoMemory;
 use std::alloc::Global;
 use std::marker::Model;
 
-/// The octets that a peer hasn't taken yet. Where they are few enough for a notice, there is room
-/// for it: no notice wants memory.
+/// The octets that a peer hasn't taken yet. If they are few enough for a notice, there is memory
+/// for it already.
 #[derive(Drop)]
 pub struct Outbox {
     octets: Vec<u8>,
@@ -31,7 +31,7 @@ impl Model for Outbox {
 }
 
 impl Outbox {
-    /// Nothing is owed. It takes the memory that notices may want.
+    /// Returns an empty outbox. It takes the memory that notices may need.
     pub fn new(alloc: Global) -> Result<Outbox, NoMemory>
         ensures { IfOk result (λ outbox. outbox ≡ []) }
     {
@@ -41,21 +41,21 @@ impl Outbox {
         })
     }
 
-    /// The octets that are owed.
+    /// Returns the pending octets.
     pub fn as_slice(&self) -> &[u8]
         ensures { result.now ≡ self.now }
     {
         &self.octets[self.start..]
     }
 
-    /// How many octets are owed.
+    /// Returns the number of pending octets.
     pub fn len(&self) -> usize
         ensures { result ≡ length self.now }
     {
         self.octets.len() - self.start
     }
 
-    /// So many octets were taken, or all, where fewer are owed.
+    /// Removes this many octets from the front, or all if there are fewer.
     pub fn take(&mut self, n: usize)
         ensures { self.new ≡ drop n self.old }
     {
@@ -67,7 +67,7 @@ impl Outbox {
         }
     }
 
-    /// Puts a notice behind the octets that are owed, which are few enough for that.
+    /// Appends a notice to the pending octets, which are few enough for that.
     pub fn put_notice(&mut self, octets: &[u8])
         requires few { length self.old ≤ NOTICE_LIMIT }
         requires short { length octets.now ≤ NOTICE_OCTETS }
@@ -82,7 +82,7 @@ impl Outbox {
         }
     }
 
-    /// Puts octets behind those that are owed.
+    /// Appends octets to the pending ones. If memory runs out, nothing changes.
     pub fn put(&mut self, octets: &[u8]) -> Result<(), NoMemory>
         ensures ok { OnOk result (self.new ≡ self.old ++ octets.now) }
         ensures err { OnErr result (self.new ≡ self.old) }

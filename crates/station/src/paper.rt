@@ -1,4 +1,4 @@
-//! What is written before it is told.
+//! What is written before it is sent.
 
 ghost use Rattle.std.specs.Prelude.{◌≡◌, ◌≤◌, ◌++◌, Ok, Some, IfOk, OnOk, length};
 ghost use Rattle.station.specs.declared.sizes.TheConstants.{NOTICE_OCTETS};
@@ -19,8 +19,8 @@ use site_base::{Actor, Answer, Event, FpNo, NoMemory, PointState, PointView, Row
 use site_book::SiteBook;
 use std::alloc::Global;
 
-/// What writes replies, and two buffers that stay: for the octets that a peer is to be told, and
-/// for a notice.
+/// A writer of replies, and two buffers that stay: for the octets that a peer will be sent, and for
+/// a notice.
 #[derive(Drop)]
 pub struct Paper {
     alloc: Global,

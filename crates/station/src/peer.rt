@@ -1,4 +1,4 @@
-//! A peer: its session, and what it is owed.
+//! A peer: its session, and its pending output.
 
 ghost use Rattle.std.specs.Prelude.{◌≡◌, ◌≤◌, None, Some, length, is_none, IfOk};
 ghost use Rattle.station.specs.declared.sizes.TheConstants.{NOTICE_OCTETS};

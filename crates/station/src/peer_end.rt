@@ -9,11 +9,11 @@ use std::fmt;
 pub enum PeerEnd {
     /// The peer's octets ended, and not inside a message.
     Well,
-    /// The text of the session ends so.
+    /// The text of the session ended with this fault.
     Talk(TalkFault),
     /// An allocation failed.
     NoMemory,
-    /// The peer was owed too much to be told a notice.
+    /// The peer had too much pending output to be sent a notice.
     Behind,
     /// Its first message came from this node, which may not speak there.
     Barred([u8; 2]),

@@ -3,30 +3,30 @@
 use app_message::{HEADER, LONGEST_BODY};
 use site_base::{POINT_CELLS, TILL_CELLS};
 
-/// So many places are for peers that come through no door.
+/// The number of places for peers that come through no door.
 pub const FREE_PLACES: usize = 1_024;
 
-/// So many sessions a node has at once, at its door or without one.
+/// The most sessions that a node has at once, at its door or without one.
 pub const NODE_SESSIONS: usize = 4;
 
 /// The most doors: one for each till and each dispenser.
 pub const DOORS: usize = TILL_CELLS + POINT_CELLS;
 
-/// The most peers at once. Behind the free places each door has its own.
+/// The most peers at once. After the free places come those of each door.
 pub const PEERS: usize = FREE_PLACES + DOORS * NODE_SESSIONS;
 
-/// A peer that is owed this many octets, or more, isn't read from.
+/// A peer with this many pending octets, or more, isn't read.
 pub const READ_LIMIT: usize = 65_536;
 
-/// A notice to a peer that is owed more octets than this ends its session instead.
+/// If a peer has more pending octets than this, a notice ends its session instead.
 pub const NOTICE_LIMIT: usize = 131_072;
 
-/// The most octets that are heard of a peer in one read.
+/// The most octets that one read takes of a peer.
 pub const HEARD_OCTETS: usize = 4_096;
 
-/// So many rows at most come of one read: a message takes eight octets at least, and at most 1,031
-/// wait for the rest of theirs.
+/// The most rows that come of one read: a message takes at least eight octets, and at most 1,031
+/// octets wait for the rest of their message.
 pub const PIECE_ROWS: usize = 640;
 
-/// The longest notice, as the longest message.
+/// The most octets of a notice: those of the longest message.
 pub const NOTICE_OCTETS: usize = HEADER + LONGEST_BODY;

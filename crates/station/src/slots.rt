@@ -1,4 +1,4 @@
-//! The peers in their slots: a key is the place of a slot.
+//! The peers in their slots. A key is the place of a slot.
 
 ghost use Rattle.std.specs.Prelude.{◌≡◌, ◌≢◌, ◌<◌, ◌≤◌, ℕ, [], length, None, Some, IsSome, IfNone};
 ghost use Rattle.std.specs.Prelude.{IfSome, OnErr, OnOk, false, option_map, true};

@@ -30,10 +30,10 @@ use std::marker::Model;
 
 /// A book, and the sessions of all peers at it. A peer has a key from its arrival until it leaves.
 ///
-/// Whoever has the connections makes the moves: a peer arrives, its octets are heard, however they
-/// are cut, what it is owed is taken, its octets end, it leaves. And the station itself acts: the
-/// house till ends a release, or a dispenser is gone. Each move is exact; where memory is wanting
-/// at a message, the request makes no row, or this one session ends, and no other.
+/// The owner of the connections makes the moves: a peer arrives, its octets are heard, however they
+/// are cut, its pending output is taken, its octets end, it leaves. The station itself acts too:
+/// the house till ends a release, or a dispenser is lost. Each move is exact. If memory runs out at
+/// a message, its request makes no row, or this one session ends, and no other.
 #[derive(Drop)]
 pub struct Station {
     alloc: Global,
@@ -62,7 +62,7 @@ impl Model for Station {
 }
 
 impl Station {
-    /// A station with these gates at this book, without peers. It takes no memory.
+    /// Returns a station with these gates at this book, without peers. It takes no memory.
     pub fn new(alloc: Global, gates: Gates, book: SiteBook) -> Station
         ensures { result ≡ opening_station gates book }
     {
@@ -76,22 +76,22 @@ impl Station {
         }
     }
 
-    /// Who may speak where is said anew: before the first peer arrives, since sessions that have
-    /// begun go on.
+    /// Sets who may speak where. Call it before the first peer arrives: sessions that have begun go
+    /// on.
     pub fn set_gates(&mut self, gates: Gates)
         ensures { self.new ≡ record self.old { gates = gates } }
     {
         self.gates = gates;
     }
 
-    /// The doors and the house till.
+    /// Returns the doors and the house till.
     pub fn gates(&self) -> &Gates
         ensures { result.now ≡ self.now.gates }
     {
         &self.gates
     }
 
-    /// The book. No key above 1,407 is given, by the station's type.
+    /// Returns the book. By the station's type no peer has a key above 1,407.
     pub fn book(&self) -> &SiteBook
         ensures book { result.now ≡ self.now.book }
         ensures keys { (k : ℕ) → PEERS ≤ k → peer_at self.now.peers k ≡ None }
@@ -99,8 +99,8 @@ impl Station {
         &self.book
     }
 
-    /// The rows in memory are forgotten, once what is unpaid among them is read: the book isn't
-    /// full any more, and its site goes on. After `NoMemory` none is forgotten.
+    /// Forgets the rows in memory, after `unpaid` has read what is unpaid among them. The book
+    /// isn't full any more, and its site stays. After `NoMemory` none is forgotten.
     pub fn forget_rows(&mut self, unpaid: &mut UnpaidSales) -> Result<(), NoMemory>
         ensures forgets { OnOk result (self.new ≡ without_old_rows self.old) }
         ensures err { OnErr result (self.new ≡ self.old) }
@@ -109,8 +109,8 @@ impl Station {
         unpaid.forget_rows(self.alloc, &mut self.book)
     }
 
-    /// A peer arrives without a door, and gets a key below 1,024 that no other has; None where all
-    /// of these are taken. Nothing changes then, and where memory is wanting.
+    /// Adds a peer that came without a door. Returns its key, which is below 1,024 and which no
+    /// other peer has; None if all of these are taken. Nothing changes then, or if memory runs out.
     pub fn arrive(&mut self) -> Result<Option<usize>, NoMemory>
         ensures ok { IfOk result (λ key. Arrives key self.old self.new) }
         ensures err { OnErr result (self.new ≡ self.old) }
@@ -118,9 +118,9 @@ impl Station {
         self.arrive_among(0, FREE_PLACES, None)
     }
 
-    /// A peer arrives at the door of this place among the doors, and gets one of its four keys;
-    /// None where each has a peer, and where there is no such door. Nothing changes then, and where
-    /// memory is wanting.
+    /// Adds a peer at the door of this place among the doors. Returns one of the door's four keys;
+    /// None if each has a peer, or there is no such door. Nothing changes then, or if memory runs
+    /// out.
     pub fn arrive_at(&mut self, door: usize) -> Result<Option<usize>, NoMemory>
         ensures ok { IfOk result (λ key. ArrivesAt door key self.old self.new) }
         ensures err { OnErr result (self.new ≡ self.old) }
@@ -156,8 +156,8 @@ impl Station {
         }
     }
 
-    /// Is the peer of this key read from? Its session lasts, and it is owed less than 65,536
-    /// octets.
+    /// Is the peer of this key read? It is if its session is active and it has fewer than 65,536
+    /// pending octets.
     pub fn is_read(&self, key: usize) -> bool
         ensures { result ≡ is_read_at self.now key }
     {
@@ -167,9 +167,9 @@ impl Station {
         }
     }
 
-    /// Hears octets of a peer that is read from: its requests are asked, its replies are owed to
-    /// it, and the peers that listen are owed the notices of the rows. Of another peer nothing is
-    /// heard.
+    /// Hears octets of a peer that is read. Asks its requests, and adds the replies to its pending
+    /// output, and the notices of the rows to that of the peers that listen. Of any other peer
+    /// nothing is heard.
     pub fn hear(&mut self, key: usize, octets: &[u8])
         ensures { (memory : Grants) × (self.new ≡ with_octets memory key octets.now self.old) }
     {
@@ -190,7 +190,7 @@ impl Station {
         }
     }
 
-    /// The octets that a peer is owed.
+    /// Returns a peer's pending octets.
     pub fn owed_octets(&self, key: usize) -> &[u8]
         ensures { result.now ≡ owed_at self.now key }
     {
@@ -200,9 +200,8 @@ impl Station {
         }
     }
 
-    /// The least key, from this one on, whose peer is owed octets; None where none is. Whoever has
-    /// the connections asks so behind moves, since peers that haven't sent anything may be owed
-    /// notices.
+    /// Returns the least key, from this one on, whose peer has pending output; None if there is
+    /// none. Call this after every move: a move can add notices for peers that have sent nothing.
     pub fn next_owed(&self, from: usize) -> Option<usize>
         ensures found { IfSome result (λ key. IsNextOwed from key self.now) }
         ensures none { IfNone result (NoneIsOwed from self.now) }
@@ -210,7 +209,7 @@ impl Station {
         next_owed(&self.slots, from)
     }
 
-    /// A peer has taken so many of the octets that it is owed.
+    /// Notes that a peer has taken this many of its pending octets.
     pub fn take(&mut self, key: usize, n: usize)
         ensures { self.new ≡ with_taken key n self.old }
     {
@@ -220,8 +219,8 @@ impl Station {
         }
     }
 
-    /// The octets of a peer have ended: its session ends, if it lasts, and leaves its till. What
-    /// the peer is owed stays.
+    /// Notes that the octets of a peer have ended. Its session ends, if it is active, and signs off
+    /// its till. Its pending output stays.
     pub fn finish(&mut self, key: usize)
         ensures { self.new ≡ with_end key self.old }
     {
@@ -231,7 +230,7 @@ impl Station {
         }
     }
 
-    /// A peer is gone: its session ends, if it lasts, and leaves its till; its key is free.
+    /// Removes a peer. Its session ends, if it is active, and signs off its till. Its key is free.
     pub fn leave(&mut self, key: usize)
         ensures { self.new ≡ without_peer key self.old }
     {
@@ -239,7 +238,8 @@ impl Station {
         let _ = take_peer(&mut self.slots, key);
     }
 
-    /// How the session of a peer ended; None while it lasts, and without a peer.
+    /// Returns how the session of a peer ended. None while it is active, and if there is no such
+    /// peer.
     pub fn end(&self, key: usize) -> Option<PeerEnd>
         ensures { result ≡ end_at self.now key }
     {
@@ -249,7 +249,7 @@ impl Station {
         }
     }
 
-    /// The originator of a peer's first message.
+    /// Returns the originator of a peer's first message.
     pub fn node(&self, key: usize) -> Option<[u8; 2]>
         ensures { result ≡ node_at self.now key }
     {
@@ -259,9 +259,9 @@ impl Station {
         }
     }
 
-    /// Whom a session that lasts is of: at a door its node, from the beginning, without one the
-    /// originator of its first message. None before that, of a session that has ended, and without
-    /// a peer.
+    /// Returns the node of an active session: at a door the door's, from the beginning; without one
+    /// the originator of the first message. None before that, for a session that has ended, and if
+    /// there is no such peer.
     pub fn speaker(&self, key: usize) -> Option<[u8; 2]>
         ensures { result ≡ speaker_at self.now key }
     {
@@ -271,16 +271,17 @@ impl Station {
         }
     }
 
-    /// How many sessions of a node last, at its door also those that haven't said anything yet.
+    /// Returns the number of active sessions of a node. At its door those count too that haven't
+    /// sent anything yet.
     pub fn session_count(&self, node: [u8; 2]) -> usize
         ensures { result ≡ count_at node self.now.peers }
     {
         count_sessions(&self.slots, node)
     }
 
-    /// The house till ends the release of a point, if there is a house till and the point is
-    /// released: the rows SignOn, Terminate, SignOff. A fuelling that has started stays. Where
-    /// memory is wanting for a row, there is none.
+    /// Ends the release of a point by the house till, with the rows SignOn, Terminate and SignOff,
+    /// if there is a house till and the point is released. A fuelling that has started stays. If
+    /// memory runs out for a row, that row isn't made.
     pub fn end_release(&mut self, p: FpNo)
         ensures { (on : Bool) × (off : Bool) × (self.new ≡ end_release on off p self.old) }
     {
@@ -308,8 +309,8 @@ impl Station {
         sign_off(&mut self.book, &mut self.slots, till);
     }
 
-    /// The dispenser of a point is gone, if no session of it lasts: the row Offline. Where memory
-    /// is wanting, there is none.
+    /// Makes the row Offline of a point's dispenser, if the dispenser has no active session. If
+    /// memory runs out, there is no row.
     pub fn lose_dispenser(&mut self, p: FpNo)
         ensures { (memory : Bool) × (self.new ≡ lose memory p self.old) }
     {

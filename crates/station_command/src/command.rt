@@ -1,6 +1,6 @@
-//! `forecourt station [FILE] [--history FOLDER] [--port N] [--doors FOLDER] [--page N] [--feed N]
-//! [--idle SECONDS] [--rate N] [--house T] [--release-age SECONDS] [--lost SECONDS] [--detached]
-//! [--json]`.
+//! `forecourt station [FILE] [--history FOLDER] [--port N] [--doors FOLDER] [--page N]
+//! [--name TEXT] [--feed N] [--idle SECONDS] [--rate N] [--house T] [--release-age SECONDS]
+//! [--lost SECONDS] [--detached] [--json]`.
 
 ghost use Rattle.std.specs.Prelude.{◌≡◌};
 ghost use Rattle.station.specs.Gates.{open_gates};
@@ -35,7 +35,7 @@ use std::rt::{Clock, Files};
 use std::sync::Wait;
 use std::thread::Threads;
 
-/// What a station asks of the system: files, sockets, the time, random numbers, and its outputs.
+/// What a station needs of the system: files, sockets, the time, random numbers, and its outputs.
 pub trait StationHost: Files<File = File>
     + Net
     + Clock
@@ -47,10 +47,10 @@ pub trait StationHost: Files<File = File>
 impl<R: Files<File = File> + Net + Clock + RandomSource + Print + Eprint + AllocGlobal> StationHost
     for R {}
 
-/// Serves every till and dispenser of a site until this input ends, and prints the report of the
-/// day; with `--detached` until the system stops it. Wrong numbers come before a
-/// folder that is in use, that before faults of the site file, those before the history's, those
-/// before faults of doors, and those before the listener's.
+/// Serves every till and dispenser of a site, and prints the report of the day. It ends when this
+/// input ends; with `--detached` when the system stops it. Wrong numbers are reported first, then a
+/// folder that is in use, then faults of the site file, of the history, of the doors and of the
+/// listener.
 pub fn run_station<
     R: StationHost,
     T: Threads + Wait + Sync,

@@ -1,5 +1,5 @@
-//! The doors of a station: which nodes have one, the feed's, and the sockets at which it listens
-//! there.
+//! The doors of a station: which nodes have one, the feed's door, and the sockets at which the
+//! station listens.
 
 ghost use Rattle.program_io.specs.Statuses.{IsFailed};
 ghost use Rattle.std.specs.Prelude.{IfErr};
@@ -22,7 +22,7 @@ use std::{fs, io};
 /// The name of the feed's door.
 const FEED_DOOR: &str = "feed";
 
-/// The doors of a station, who may speak at each, and the sockets that were made for them.
+/// The doors of a station, who may send at each, and the sockets that were made for them.
 #[derive(Drop)]
 pub struct OpenDoors {
     pub doors: Doors,
@@ -30,8 +30,8 @@ pub struct OpenDoors {
     pub sockets: Sockets,
 }
 
-/// The sockets that a start has made, and the lock of the folder of their doors: while one station
-/// has it, no other one takes a socket for one that an earlier run left.
+/// The sockets that a start has made, and the lock of the folder of their doors. While one station
+/// has the lock, no other station replaces its sockets as ones that an earlier run left.
 #[derive(Drop)]
 pub struct Sockets {
     lock: Option<File>,
@@ -82,8 +82,9 @@ enum SocketFault {
     Deaf,
 }
 
-/// Listens at the doors of this folder, if there is one, or says why not, and how the program ends:
-/// at the socket of each subfolder that has the name of a node, or of the feed's door.
+/// Listens at the doors of this folder, if one is given: at the socket of each subfolder that has
+/// the name of a node, or that of the feed's door. On an error, removes the sockets, prints why and
+/// returns the exit status.
 pub fn open_doors<R: Files<File = File> + Net + Eprint + AllocGlobal>(
     rt: &R,
     folder: Option<&str>,

@@ -1,5 +1,5 @@
-//! Lines for standard error that a thread of their own writes: the station doesn't wait for whoever
-//! reads them.
+//! Lines for standard error, which a separate thread writes. The station doesn't wait until they
+//! are read.
 
 use crate::line_tally::LineTally;
 use day_base::DayFault;
@@ -27,8 +27,9 @@ const TURNS_A_LINE: usize = 4;
 /// The last lines are waited for so many seconds, where nobody reads them.
 const LAST_LINE_SECONDS: u64 = 1;
 
-/// Lines are passed to a thread that writes them, of one text only as many as are written in a
-/// second. One that finds no room, since nobody reads them, is left out and counted.
+/// Passes lines to a thread that writes them. Of lines with the same text only the first ones of
+/// each second are passed. A line for which there is no room, because nobody reads them, is left
+/// out and counted.
 #[derive(Drop)]
 pub struct ErrorLines {
     alloc: Global,
@@ -41,7 +42,8 @@ pub struct ErrorLines {
 }
 
 impl ErrorLines {
-    /// Starts the thread, which writes to this output.
+    /// Starts the thread, which writes to this output. `NoConnection`, `NoMemory` or `NoWorker` if
+    /// that fails.
     pub fn start<N: Net, T: Threads, E: Eprint + Clock + Send + Drop + 'static>(
         net: &N,
         threads: &T,
@@ -72,7 +74,7 @@ impl ErrorLines {
         }
     }
 
-    /// Waits until the last lines are written, but not long where nobody reads them.
+    /// Waits until the last lines are written; if nobody reads them, for a second at most.
     pub fn end<T: Threads>(self, threads: &T) {
         let _ = self.pass_left_out();
         let ErrorLines {
@@ -168,7 +170,7 @@ impl Eprint for Passing<'_> {
     }
 }
 
-/// The clock of a host, and lines that a thread of their own writes.
+/// The clock of a host, and lines that a separate thread writes.
 #[derive(Drop)]
 pub struct Reporting<'a, R> {
     pub host: &'a R,

@@ -1,4 +1,5 @@
-//! What is told of the rows of a history so far, at a start: to the feed's peers, and on the page.
+//! What the feed's peers are sent, and what the page shows, of the rows that a history has at a
+//! start.
 
 ghost use Rattle.std.specs.Prelude.{IfErr};
 ghost use Rattle.program_io.specs.Statuses.{IsFailed};
@@ -16,10 +17,10 @@ use std::alloc::Global;
 use std::process::ExitCode;
 use std::rt::Files;
 
-/// What is told of the rows of a history so far.
+/// What the feed and the page have of the rows of a history so far.
 #[derive(Drop)]
 pub struct EarlierRows {
-    /// What the feed's peers are told, if there is a feed.
+    /// The rows that the feed's peers are sent, if there is a feed.
     pub fed: Option<FedRows>,
     /// The tally that the page shows, if there is a page.
     pub tally: Option<RowTally>,
@@ -41,8 +42,9 @@ struct FedReader {
     starts: ChapterStarts,
 }
 
-/// What is told of the rows so far where a station begins with this book, or how the program ends:
-/// of those of the history in this folder; without a history no row yet.
+/// Reads the rows of the history in this folder for the feed and the page of a station that begins
+/// with this book. Without a history there are no rows yet. On an error, prints it and returns the
+/// exit status.
 pub fn read_earlier<R: Files + Eprint + AllocGlobal>(
     rt: &R,
     history: Option<&str>,

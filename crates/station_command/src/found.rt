@@ -1,4 +1,4 @@
-//! What a station's start says of its history.
+//! What a station prints about its history at a start.
 
 use day_base::DayFault;
 use devices::WriteFault;
@@ -8,14 +8,13 @@ use devices::WriteFault;
 pub enum FoundHistory {
     /// There is no folder: nothing is kept.
     NoFolder,
-    /// No chapters were there.
+    /// There were no chapters.
     New,
-    /// So many chapters were there, with so many rows.
+    /// The number of chapters, and of their rows.
     Chapters(u64, u64),
 }
 
-/// Says what was found: of a history on standard output, and that nothing is kept on standard
-/// error.
+/// Prints what was found: of a history on standard output; that nothing is kept on standard error.
 pub fn print_found<R: Print + Eprint>(rt: &R, found: FoundHistory) -> Result<(), DayFault> {
     let printed = match found {
         FoundHistory::NoFolder => {

@@ -1,4 +1,4 @@
-//! The station that a command opens, with its history or without one.
+//! Opens the station of a command, with or without a history.
 
 ghost use Rattle.std.specs.Prelude.{◌≡◌, ◌≤◌, ℕ, IfErr, IfNone, IfOk, IfSome, List, None, Option};
 ghost use Rattle.std.specs.Prelude.{string_bytes};
@@ -25,8 +25,9 @@ use std::fs::File;
 use std::process::ExitCode;
 use std::rt::{Clock, Files};
 
-/// The station that a command opens, and what was found of its history, or how the program ends:
-/// that of the history in this folder, or one without a history on the site of this file.
+/// Opens the station with the history in this folder, or one without a history on the site of this
+/// file. Returns what was found of the history too. On an error, prints it and returns the exit
+/// status.
 pub fn open_station<'a, R: Files<File = File> + Clock + Eprint + AllocGlobal>(
     rt: &'a R,
     site: Option<&str>,
@@ -147,7 +148,8 @@ fn open_with<'a, R: Files<File = File> + Clock + Eprint + AllocGlobal>(
     }
 }
 
-/// The path of the file of this name in a folder, or how the program ends.
+/// Returns the path of the file of this name in a folder. If memory runs out, prints that and
+/// returns the exit status.
 pub fn path_of<R: Eprint + AllocGlobal>(
     rt: &R,
     folder: &str,
@@ -162,7 +164,7 @@ pub fn path_of<R: Eprint + AllocGlobal>(
     }
 }
 
-/// How the program ends where what has this name isn't there to be used.
+/// Prints why the file of this name can't be used, and returns the exit status.
 pub fn exit_file(rt: &impl Eprint, name: &str, fault: FileFault) -> ExitCode
     ensures { IsFailed result }
 {

@@ -1,4 +1,4 @@
-//! The thread that waits for the end of standard input, and then ends a station's day.
+//! The thread that waits for the end of standard input, and then ends the day of a station.
 
 use day_base::DayFault;
 use mio::Waker;
@@ -20,8 +20,8 @@ pub struct InputWatch {
 }
 
 impl InputWatch {
-    /// Starts the thread: at the end of this input it wakes the server. `NoWorker` where it can't
-    /// be started.
+    /// Starts the thread. It wakes the server at the end of this input. `NoWorker` if the thread
+    /// can't be started, `NoMemory` if memory runs out.
     pub fn start<T: Threads, I: Read + Send + Drop + 'static>(
         threads: &T,
         alloc: Global,
@@ -36,8 +36,8 @@ impl InputWatch {
         }
     }
 
-    /// Lets the thread go, and first waits for its end if the day ended well: its input has ended
-    /// then.
+    /// Lets the thread go. If the day ended well, the input has ended, and this first waits for the
+    /// thread's end.
     pub fn end<T: Threads>(self, threads: &T, is_well: bool) {
         let InputWatch { thread, waker } = self;
         if is_well {

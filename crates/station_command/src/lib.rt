@@ -1,8 +1,8 @@
 //! The command that opens a station for a day: `station`.
 //!
 //! `run_station` takes what the command line says, reads the site file, opens the history, runs the
-//! day and gives the status that the program exits with. What a day is stands in `station_days`, a
-//! history's folder in `history_files`.
+//! day and returns the exit status. What a day does is in `station_days`, and the folder of a
+//! history in `history_files`.
 #![tactic(auto)]
 
 mod command;

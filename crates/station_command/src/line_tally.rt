@@ -1,4 +1,4 @@
-//! How often a line is written.
+//! Counts how often a line is written.
 
 use std::alloc::Global;
 use std::mem;
@@ -10,7 +10,7 @@ const LINES_A_SECOND: u64 = 10;
 /// So many texts are told apart in a second.
 const TEXTS: usize = 64;
 
-/// The texts of this second, and how many lines of each came.
+/// The texts of the current second, and how many lines of each came.
 #[derive(Drop)]
 pub struct LineTally {
     alloc: Global,
@@ -29,7 +29,7 @@ struct Text {
 }
 
 impl LineTally {
-    /// No line came.
+    /// Returns a tally without lines.
     pub fn new(alloc: Global) -> LineTally {
         LineTally {
             alloc,
@@ -39,7 +39,7 @@ impl LineTally {
         }
     }
 
-    /// Did no line come?
+    /// Have no lines come?
     pub fn is_empty(&self) -> bool {
         self.texts.is_empty() && self.others == 0
     }
@@ -52,12 +52,13 @@ impl LineTally {
         }
     }
 
-    /// Takes what was counted: a new second begins with the next line.
+    /// Returns what was counted, and empties the tally. A new second begins with the next line.
     pub fn take(&mut self) -> LineTally {
         mem::replace(self, LineTally::new(self.alloc))
     }
 
-    /// Counts a line: is it one of the first of its text in this second?
+    /// Counts a line. Returns whether it is one of the first of its text in this second, and so may
+    /// be written.
     pub fn count(&mut self, line: &str, now: Option<Instant>) -> bool {
         if self.is_empty() {
             self.since = now;
@@ -84,7 +85,7 @@ impl LineTally {
         }
     }
 
-    /// Says how many lines were left out.
+    /// Prints how many lines were left out.
     pub fn tell<E: Eprint>(self, output: &E) {
         for known in &self.texts {
             if known.count > LINES_A_SECOND {

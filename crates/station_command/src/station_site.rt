@@ -1,4 +1,4 @@
-//! The site of a station: that of its site file, or that of its history's folder.
+//! The site of a station: from its site file, or from the folder of its history.
 
 ghost use Rattle.std.specs.Prelude.{◌≡◌, ◌≢◌, ◌≤◌, IfErr, IfOk, Ok, OnErr, OnOk, nat_lt};
 ghost use Rattle.journal.specs.declared.memory.TheConstants.{LEAST_ROWS};
@@ -16,9 +16,9 @@ use std::fs::File;
 use std::process::ExitCode;
 use std::rt::Files;
 
-/// The site of the file of this name, with its octets, or how the program ends: the file can't be
-/// read, or has a fault. Of a station's book it allows 1,024 rows or more: with fewer, those of one
-/// read could fill it.
+/// Reads the site of the file of this name, with its octets. If the file can't be read, has a fault
+/// or allows fewer than 1,024 rows, prints that and returns the exit status: with fewer rows, those
+/// of one read could fill a station's book.
 pub fn read_station_site<R: Files + Eprint + AllocGlobal>(
     rt: &R,
     name: &str,
@@ -45,9 +45,10 @@ fn has_few_rows(config: &SiteConfig) -> bool
     (config.rows() as usize) < LEAST_ROWS
 }
 
-/// The site of the history in the folder of this name, with the octets of its site file, or how the
-/// program ends. The site file that is given, if one is, says the same site; in a folder without
-/// chapters and without a site file it is kept as that.
+/// Reads the site of the history in the folder of this name, with the octets of its site file. If a
+/// site file is given, it has to describe the same site. In a folder without chapters and without a
+/// site file, the given file is kept as the folder's. On an error, prints it and returns the exit
+/// status.
 pub fn history_site<R: Files<File = File> + Eprint + AllocGlobal>(
     rt: &R,
     folder: &HistoryFolder<'_, R>,

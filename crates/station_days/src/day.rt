@@ -21,14 +21,15 @@ use std::io::Write;
 use std::sync::Wait;
 use std::time::Clock;
 
-/// A day of a station that was opened at this book, with its journal if it has one, and whose
-/// server listens already: it writes where, and where its page and its feed are, serves until the
-/// day's end, ends the sessions that are left, so that nobody is there, and writes the report of
-/// its book in this form, by the figures that its site keeps. Sessions of which nothing comes for
-/// so many seconds are ended. Where waiting for connections fails the day ends so, with
-/// `NoConnection` behind the report; where the journal takes no more it ends with `Write`, without
-/// a report, since that would tell of rows that aren't stored. However it ends, what it wrote is a
-/// front of that text, by the moves that led to the station as it is then, and its journal goes on.
+/// Runs the day of a station that was opened at this book, with its journal if it has one. The
+/// server listens already. The day writes where it, its page and its feed listen; serves until the
+/// day's end; ends the sessions that are left; and writes the report of the book in this form, with
+/// the figures that the site keeps. A session that sends nothing for `idle` seconds is ended.
+///
+/// If waiting for connections fails, the day ends with `NoConnection`, after the report. If the
+/// journal takes no more, it ends with `Write` and without a report: a report would include rows
+/// that aren't stored. In every case what it wrote is a prefix of that text, for the moves that led
+/// to the station's present state, and the journal continues.
 pub fn station_day<W: Write, T: Wait, R: Clock + Eprint, D: Disk>(
     threads: &T,
     rt: &R,

@@ -1,4 +1,4 @@
-//! A server's fault, as the day's.
+//! Turns a server's fault into one of the day.
 
 ghost use Rattle.std.specs.Prelude.{◌≡◌};
 ghost use Rattle.station_days.specs.StationDays.{ended_by};
@@ -7,7 +7,7 @@ use day_base::DayFault;
 use devices::WriteFault;
 use station_server::ServerFault;
 
-/// The fault with which a day ends whose server ends so.
+/// Returns the fault with which a day ends if its server ends with this one.
 pub fn to_day_fault(fault: ServerFault) -> DayFault
     ensures { result ≡ ended_by fault }
 {

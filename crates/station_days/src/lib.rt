@@ -1,6 +1,6 @@
-//! Days of a station, from where it listens to the report of its book.
+//! The days of a station, from its first listening to the report of its book.
 //!
-//! `station_day` has a station serve until its day's end, and writes the report of its book:
+//! `station_day` lets a station serve until its day's end, and writes the report of its book.
 //! `specs/StationDays.antt` says what is written.
 #![tactic(auto)]
 

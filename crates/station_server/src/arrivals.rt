@@ -1,4 +1,4 @@
-//! Who waits at the doors and over TCP is accepted.
+//! Accepts the connections that wait at the doors and over TCP.
 
 ghost use Rattle.std.specs.Prelude.{None, Some};
 ghost use Rattle.peer_connections.specs.Allowed.{IsDismissal, IsWelcome};

@@ -1,4 +1,4 @@
-//! The listeners of the doors, and of the feed's.
+//! The listeners of the doors, and of the feed's door.
 
 use connection_calls::{Caller, accept_at_door};
 use mio::net::{UnixListener, UnixStream};
@@ -10,8 +10,7 @@ use std::io;
 /// What a new connection of the first door is reported under; those of the others follow.
 const FIRST_DOOR: usize = usize::MAX - 1_024;
 
-/// The listeners of the doors, by their places among the doors, and that of the feed's door, if
-/// there is one.
+/// The listeners of the doors, by the doors' places, and that of the feed's door, if there is one.
 #[derive(Drop)]
 pub struct Doors {
     doors: Vec<Door>,
@@ -26,7 +25,7 @@ struct Door {
 }
 
 impl Doors {
-    /// No doors.
+    /// Returns a list without doors.
     pub fn new(alloc: Global) -> Doors {
         Doors {
             doors: Vec::new(alloc),
@@ -34,12 +33,12 @@ impl Doors {
         }
     }
 
-    /// The feed's door, at which this one listens.
+    /// Sets the listener of the feed's door.
     pub fn set_feed(&mut self, listener: UnixListener) {
         self.feed = Some(listener);
     }
 
-    /// Is there a door of the feed?
+    /// Is there a door for the feed?
     pub fn has_feed(&self) -> bool {
         self.feed.is_some()
     }
@@ -49,7 +48,7 @@ impl Doors {
         self.feed.take()
     }
 
-    /// One more door, at which this one listens.
+    /// Adds a door that has this listener.
     pub fn add(&mut self, listener: UnixListener) -> Result<(), NoMemory> {
         self.doors.push(Door {
             listener,
@@ -58,7 +57,7 @@ impl Doors {
         Ok(())
     }
 
-    /// How many doors there are.
+    /// Returns the number of doors. The feed's isn't counted.
     pub fn len(&self) -> usize {
         self.doors.len()
     }

@@ -11,7 +11,7 @@ pub enum ServerFault {
     /// An allocation failed.
     #[error("out of memory")]
     NoMemory,
-    /// It can't wait for connections: at a door, or at all.
+    /// It can't wait for connections, at a door or at all.
     #[error("no connections")]
     NoConnection,
     /// It can't listen on this port of 127.0.0.1.

@@ -1,4 +1,4 @@
-//! The listeners, and what each is reported under.
+//! The listeners, and the key under which each is reported.
 
 use crate::fault::ServerFault;
 use connection_calls::{Caller, accept};

@@ -1,4 +1,4 @@
-//! The server: it waits until connections are ready, round after round.
+//! The server, which waits until connections are ready, round after round.
 
 ghost use Rattle.std.specs.Prelude.{◌≡◌, ◌<◌, OnOk, length, true};
 ghost use Rattle.station.specs.declared.sizes.TheConstants.{PEERS};
@@ -38,7 +38,7 @@ use std::time::{Clock, Duration, Instant};
 /// The key of the feed's first connection. Those of the page are below.
 const FIRST_FEED: usize = PEERS + 1_024;
 
-/// A listener on 127.0.0.1, if there is one, those of the doors, one of the page if there is one,
+/// The listeners on 127.0.0.1, of the doors, of the page and of the feed, as far as there are any,
 /// and what waits for their connections.
 #[derive(Drop)]
 pub struct StationServer {
@@ -79,8 +79,8 @@ pub struct StationServer {
 }
 
 impl StationServer {
-    /// Listens at these doors, and on this port of 127.0.0.1, if there is one, on a free one where
-    /// it is 0. `Deaf` where that port can't be.
+    /// Listens at these doors, and on this port of 127.0.0.1, if one is given. Port 0 means a free
+    /// one. `Deaf` if it can't listen on that port.
     pub fn bind<N: Net, C: Clock>(
         net: &N,
         clock: &C,
@@ -95,8 +95,8 @@ impl StationServer {
         listen(net, clock, alloc, events, port, doors)
     }
 
-    /// Listens for those who look at the page, too: on this port of 127.0.0.1, on a free one where
-    /// it is 0. The page shows this name of the site, if it has one. `Deaf` where that can't be.
+    /// Listens for browsers too, on this port of 127.0.0.1. Port 0 means a free one. The page shows
+    /// this name of the site, if one is given. `Deaf` if it can't listen there.
     pub fn bind_page<N: Net, R: RandomSource>(
         &mut self,
         net: &N,
@@ -114,9 +114,9 @@ impl StationServer {
         Ok(())
     }
 
-    /// Listens for peers of the feed, too: on this port of 127.0.0.1, if there is one, on a free
-    /// one where it is 0, and at the feed's door, if there is one. `Deaf` where that port can't be,
-    /// `NoConnection` where the door can't.
+    /// Listens for peers of the feed too: on this port of 127.0.0.1, if one is given, and at the
+    /// feed's door, if there is one. Port 0 means a free one. `Deaf` if it can't listen on that
+    /// port, `NoConnection` if it can't at the door.
     pub fn bind_feed<N: Net>(&mut self, net: &N, port: Option<u16>) -> Result<(), ServerFault> {
         let mut feeds = Feeds::new(self.alloc, FIRST_FEED, self.swept_at)?;
         let port = add_feed_port(net, &self.poll, port, &mut feeds)?;
@@ -128,40 +128,42 @@ impl StationServer {
         Ok(())
     }
 
-    /// Listens no more.
+    /// Stops listening.
     pub fn close(self) {}
 
-    /// The port on which it listens, if it does on one.
+    /// Returns the port on which it listens, if it has one.
     pub fn port(&self) -> Option<u16>
         ensures { result ≡ self.now.port }
     {
         self.port
     }
 
-    /// The port of the page, if there is one.
+    /// Returns the port of the page, if there is one.
     pub fn page_port(&self) -> Option<u16>
         ensures { result ≡ self.now.page_port }
     {
         self.page_port
     }
 
-    /// The port of the feed, if it has one.
+    /// Returns the port of the feed, if it has one.
     pub fn feed_port(&self) -> Option<u16>
         ensures { result ≡ self.now.feed_port }
     {
         self.feed_port
     }
 
-    /// What ends the day, from another thread.
+    /// Returns what ends the day from another thread.
     pub fn waker(&self) -> Result<Waker, ServerFault> {
         Waker::new(self.poll.registry(), WAKER).map_err(|_| ServerFault::NoConnection)
     }
 
-    /// Serves connections until the day's end. Sessions of which nothing comes for so many seconds
-    /// are ended. At the day's end each session ends, what it is owed is sent as far as its
-    /// connection takes it, and nobody is left; so too where waiting for connections fails, with
-    /// `NoConnection`, and where the journal takes no more, with `NotStored`: then nobody is told
-    /// anything more.
+    /// Serves connections until the day's end. A session that sends nothing for `idle` seconds is
+    /// ended. At the day's end each session ends, and its pending output is sent as far as its
+    /// connection takes it. No peer is left.
+    ///
+    /// If waiting for connections fails, it ends in the same way, with `NoConnection`. If the
+    /// journal takes no more, it ends with `NotStored`: the sessions end too, but nothing more is
+    /// sent.
     #[tactic(auto, using(crate::proofs::Rounds::moved))]
     pub fn serve<T: Wait, R: Clock + Eprint, D: Disk>(
         &mut self,

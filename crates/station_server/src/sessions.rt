@@ -1,4 +1,4 @@
-//! The sessions that the page lists, and what it counts.
+//! The sessions that the page lists, and what the page counts.
 
 ghost use Rattle.std.specs.Prelude.{◌≡◌};
 

@@ -1,16 +1,16 @@
 //! The sizes of the server, each written once.
 
-/// So many events are looked at in a round.
+/// The most events that a round looks at.
 pub const EVENTS_A_ROUND: usize = 256;
 
-/// Where accepting failed, it is tried again after so many seconds, and so often it is looked
-/// whose session is idle, or doesn't close.
+/// The seconds between two sweeps. A sweep retries a failed accept, and looks for sessions that are
+/// idle or don't close.
 pub const SWEEP_SECONDS: u64 = 1;
 
-/// By a round, however long it takes, the time by which peers are waited for goes on so many
-/// seconds at most.
+/// The most seconds that a round adds to the time by which peers are waited for, however long it
+/// takes.
 pub const ROUND_SECONDS: u64 = 1;
 
-/// So many rounds are heard, at most, from the time of a sweep on until it is swept: in them
-/// everybody who was ready has a turn.
+/// The most rounds that are heard from the time of a sweep on until it is swept. In them everybody
+/// who was ready has a turn.
 pub const ROUNDS_BEFORE_A_SWEEP: usize = 16;

@@ -1,4 +1,4 @@
-//! Listeners: where the connections of sessions come from.
+//! Listeners, which give sessions their connections.
 
 ghost use Rattle.std.specs.Prelude.{◌≡◌};
 
@@ -17,8 +17,7 @@ pub enum NoConnection {
     Failed,
 }
 
-/// A listener. It counts the calls that failed, from 0 up to the greatest `u64`, where the count
-/// stays.
+/// A listener. It counts its failed calls, from 0 up to the greatest `u64`, where the count stays.
 pub trait Accept {
     ghost use Rattle.std.specs.Prelude.{◌≡◌, ℕ, OnOk};
     ghost use Rattle.std.specs.Result.{IsErrOf};
@@ -33,7 +32,7 @@ pub trait Accept {
     // The number of calls that failed.
     ghost failed: { Self → ℕ };
 
-    /// The next connection. It may wait for it.
+    /// Returns the next connection. It may wait for it.
     fn accept(&mut self, alloc: Global) -> Result<(Self::Reader, Self::Writer), NoConnection>
         ensures given { OnOk result (failed self.new ≡ failed self.old) }
         ensures no_memory { IsErrOf result NoConnection.NoMemory
@@ -41,7 +40,7 @@ pub trait Accept {
         ensures failed { IsErrOf result NoConnection.Failed
             → failed self.new ≡ one_more (failed self.old) };
 
-    /// The number of calls that failed.
+    /// Returns the number of failed calls.
     fn failures(&self) -> u64
         ensures { result ≡ failed self.now };
 }

@@ -1,4 +1,4 @@
-//! The counter of a desk: what a session asks goes to the desk's lock, through one share.
+//! The counter of a desk: it passes what a session asks to the desk's lock, through one share.
 
 ghost use Rattle.std.specs.Prelude.{◌≡◌, ◌++◌, ℕ, map};
 ghost use Rattle.counter_desk.specs.Receipts.{receipted_row};
@@ -12,9 +12,9 @@ use site_base::{Actor, Event, NoRow, Reply, TillNo};
 use std::sync::Wait;
 use std::sync::ledger::Ledger;
 
-/// What a session asks of a desk: each request is submitted through the share, between the gate's
-/// two calls; the second one comes once the reply was written. Its record is what the share's
-/// receipts tell, and it owes what the share owes.
+/// What a session asks of a desk. Each request is submitted through the share, between the gate's
+/// two calls; the second one is made once the reply was written. The counter's record is that of
+/// the share's receipts, and it owes what the share owes.
 #[derive(Drop)]
 pub struct DeskCounter<'a, L: Ledger, C: Naming, G: Gate, R: Wait> {
     rt: &'a R,
@@ -24,8 +24,8 @@ pub struct DeskCounter<'a, L: Ledger, C: Naming, G: Gate, R: Wait> {
 }
 
 impl<'a, L: Ledger, C: Naming, G: Gate, R: Wait> DeskCounter<'a, L, C, G, R> {
-    /// A counter of this desk, through this share, before this gate: its record is what the share's
-    /// receipts tell, and it owes what the share owes.
+    /// Returns a counter of this desk, with this share and this gate. Its record is that of the
+    /// share's receipts, and it owes what the share owes.
     pub fn new(
         rt: &'a R,
         desk: &'a Desk<L, C>,

@@ -1,4 +1,4 @@
-//! Why a session ends before its peer's octets do, or with them.
+//! Why a session ends, before or at the end of its peer's octets.
 
 ghost use Rattle.std.specs.Prelude.{◌≡◌};
 ghost use Rattle.till_session.specs.Ends.{session_number};
@@ -23,13 +23,13 @@ pub enum SessionFault {
     /// There was no connection to serve.
     #[error("no connection")]
     Accept,
-    /// The text ends so.
+    /// The text ended with this fault.
     #[error("{0}")]
     Talk(TalkFault),
 }
 
 impl SessionFault {
-    /// Its number: 31, 40 to 44, 57, 59, 61, 62 or 63.
+    /// Returns its number: 31, 40 to 44, 57, 59, 61, 62 or 63.
     pub fn number(self) -> u8
         ensures { result ≡ session_number self }
     {

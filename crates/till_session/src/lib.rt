@@ -1,9 +1,9 @@
-//! Sessions of tills and dispensers: octets in, replies out.
+//! Sessions of tills and dispensers: they read octets and write replies.
 //!
 //! A `Session` reads the messages of one peer, asks a `Counter` for each request, and writes the
-//! reply before it asks for the next one. What it writes is the text of what it read, as peer_talk
-//! defines it; the counter's record has a row for each request that was answered
-//! with one, and a till that the session signed on and didn't sign off is signed off at its end.
+//! reply before it asks for the next one. `peer_talk` defines the text that it writes for what it
+//! read. The counter's record has a row for each request that was answered with one. A till that
+//! the session signed on and didn't sign off is signed off at its end.
 #![tactic(auto)]
 
 mod accept;

@@ -1,4 +1,4 @@
-//! The server: workers that serve sessions side by side.
+//! The server: workers that serve sessions in parallel.
 
 ghost use Rattle.std.specs.Prelude.{◌≡◌, ◌+◌, ◌≤◌, ◌<◌, false, length, vec_capacity, vec_len, IfOk};
 ghost use Rattle.std.specs.Prelude.{IfSome, Some};
@@ -82,14 +82,12 @@ impl Promise<Vec<NumberedEnd>> for DrawnEnds {
 /// A worker's thread, if it was started.
 type Started = Option<PromisedHandle<Vec<NumberedEnd>, DrawnEnds>>;
 
-/// Serves so many sessions by so many workers, all side by side. Each worker takes a share from the
+/// Serves this many sessions by this many workers, in parallel. Each worker takes a share from the
 /// root, draws the numbers of sessions, accepts one connection for each, serves it at the desk, and
-/// hands the share back. The ends come in the order of the sessions' numbers, one for each that was
-/// drawn: that of a session of so many turns, or of a connection that the listener didn't give,
-/// with
-/// `Accept` or `NoMemory`. A worker
-/// that can't be started, or finds no memory for its share or its ends, draws none. An allocation
-/// that is refused here is answered before any worker starts.
+/// hands the share back. The result has an end for each session that was drawn, in the order of the
+/// sessions' numbers: that of a session of `turns` turns, or `Accept` or `NoMemory` if the listener
+/// gave no connection. A worker that can't be started, or finds no memory for its share or its
+/// ends, draws none. An allocation that fails here is reported before any worker starts.
 pub fn serve<
     A: Accept + Send + Sync + Drop,
     L: Ledger + Send + Sync,

@@ -1,4 +1,4 @@
-//! Sessions: octets in, replies out.
+//! Sessions: they read octets and write replies.
 
 ghost use Rattle.std.specs.Prelude.{◌≡◌, ℕ, true, false, Some, None, is_some, IfSome, OnOk};
 ghost use Rattle.std.specs.Result.{IsErrOf, result_err};
@@ -22,11 +22,11 @@ use std::io::{Read, Write};
 /// How a session ended.
 #[derive(Clone, Copy, Debug, PartialEq, Eq)]
 pub struct SessionEnd {
-    /// Why it ended; None where the octets were read to their end without a fault.
+    /// Why it ended; None if the octets were read to their end without a fault.
     pub fault: Option<SessionFault>,
-    /// The number of requests asked, up to the greatest `u64`.
+    /// The number of requests that were asked, up to the greatest `u64`.
     pub asked: u64,
-    /// Was the counter told to leave a till?
+    /// Was the counter asked to sign off a till?
     pub signed_off: bool,
 }
 
@@ -36,13 +36,14 @@ pub struct Session;
 
 impl Session {
     /// Serves one peer: reads its messages, asks the counter for each request, and writes each
-    /// reply before the next request is asked. It serves the originator of the first message: a
-    /// message of another one is refused, and ends it. A message that means no event is refused,
-    /// and the session goes on; so it does where the counter has no row for a request. A fault of
-    /// the octets is refused, and ends it. It ends too at the end of the octets, where a growth is
-    /// refused, where a device fails, and where `turns` are used up: each read call and each
-    /// interrupted write call is a turn. Whatever it ends with, what was written is a front of the
-    /// text of what was read, and a till that it signed on and didn't sign off is left.
+    /// reply before it asks for the next request. It serves the originator of the first message. A
+    /// message of another originator is refused, and ends it. A message that means no event is
+    /// refused, and the session continues; the same is true if the counter has no row for a
+    /// request. A fault of the octets is refused, and ends it. It also ends at the end of the
+    /// octets, if a growth is refused, if a device fails, and if `turns` are used up: each read
+    /// call and each interrupted write call is a turn. However it ends, what was written is a
+    /// prefix of the text of what was read, and a till that it signed on and didn't sign off is
+    /// signed off.
     pub fn run<R: Read, W: Write, C: Counter>(
         alloc: Global,
         reader: &mut Counted<R>,

@@ -1,4 +1,4 @@
-//! What a session says: each message is answered before the next one is looked at.
+//! What a session says: each message is answered before it looks at the next one.
 
 ghost use Rattle.std.specs.Prelude.{◌≡◌, ◌≤◌, ◌++◌, ℕ, true, [], ◌∷◌, IfOk, OnOk, IfErr, IsErr};
 ghost use Rattle.std.specs.Result.{IsErrOf, result_err};

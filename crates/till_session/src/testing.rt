@@ -1,4 +1,4 @@
-//! Devices for tests of sessions: over memory, and failing where a test wants it.
+//! Devices for tests of sessions: they work in memory, and fail where a test wants it.
 
 mod connections;
 mod faulty;

@@ -34,11 +34,11 @@ use std::alloc::Global;
 use std::array;
 use std::marker::Model;
 
-/// The transactions of a site's fuelling points. A transaction is called by the shift in which it
+/// The transactions of a site's fuelling points. The name of a transaction is the shift in which it
 /// was sold, its point, and its number there in that shift. Contracts see the finite map from the
 /// points that have sold to their sales in the order in which they were made, and for each point
-/// how many more sales there is room for. The volume of a product in all transactions fits in 64
-/// bits.
+/// the number of further sales for which there is room. The volume of a product in all transactions
+/// fits in 64 bits.
 #[derive(Drop)]
 pub struct Buffer {
     // The shelf of point p stands in cell p - 1.
@@ -66,7 +66,7 @@ impl Model for Buffer {
 }
 
 impl Buffer {
-    /// No point has sold anything. It takes no memory.
+    /// Returns an empty buffer: no point has sold anything. It takes no memory.
     pub fn new(alloc: Global) -> Self
         ensures { result.sales ≡ no_sales }
     {
@@ -78,7 +78,7 @@ impl Buffer {
     }
 
     /// Makes the room that the next sale of point p needs. The sales stay, and so does the room of
-    /// every other point. Where there is no memory, nothing changes.
+    /// every other point. If memory runs out, nothing changes.
     pub fn reserve(&mut self, p: FpNo) -> Result<(), NoMemory>
         ensures sales { self.new.sales ≡ self.old.sales }
         ensures room { OnOk result (0 < room_at p self.new.rooms) }
@@ -91,7 +91,7 @@ impl Buffer {
         shelf.reserve()
     }
 
-    /// How many transactions of point p are unpaid: payable or locked.
+    /// Returns how many transactions of point p are unpaid: payable or locked.
     pub fn unpaid(&self, p: FpNo) -> u8
         ensures value { result ≡ unpaid_at p self.now.sales }
         ensures range { result ≤ UNPAID_LIMIT }
@@ -100,8 +100,9 @@ impl Buffer {
         shelf.unpaid()
     }
 
-    /// The number of point p's next sale in a shift: one more than it has made there, so that no
-    /// number is used twice in a shift. None after `GREATEST_SEQ` sales.
+    /// Returns the number of point p's next sale in a shift: one more than the number of sales that
+    /// it has made there, so that no number is used twice in a shift. None after `GREATEST_SEQ`
+    /// sales.
     pub fn next_seq(&self, p: FpNo, shift: ShiftNo) -> Option<Seq>
         ensures { result ≡ next_number p shift self.now.sales }
     {
@@ -109,11 +110,12 @@ impl Buffer {
         shelf.next_seq(shift)
     }
 
-    /// Adds a sale of point p in a shift and answers its number there. The view is payable without
-    /// a till, or locked with one. Room for it is reserved, fewer than `UNPAID_LIMIT` transactions
-    /// of the point are unpaid, the shift has a next number, no sale of the point is of a later
-    /// shift, and the volumes of all sales of the product fit in 64 bits with this one. No other
-    /// transaction changes. The cents are the view's: the buffer computes none. It takes no memory.
+    /// Adds a sale of point p in a shift, and returns its number there. The sale is payable if the
+    /// view names no till, and locked by the till that it names. The caller has reserved room for
+    /// the sale. Fewer than `UNPAID_LIMIT` transactions of the point are unpaid, the shift has a
+    /// next number, and no sale of the point is of a later shift. The volumes of all sales of the
+    /// product fit in 64 bits with this one. No other transaction changes. The cents are the
+    /// view's: the buffer computes none. It takes no memory.
     pub fn add(&mut self, p: FpNo, shift: ShiftNo, view: TransactionView) -> Seq
         requires room { 0 < room_at p self.old.rooms }
         requires unpaid { unpaid_at p self.old.sales < UNPAID_LIMIT }
@@ -136,7 +138,7 @@ impl Buffer {
         seq
     }
 
-    /// The transaction, where it is. None where it isn't there.
+    /// Finds the place of the transaction; None if there is none.
     pub fn find(&self, p: FpNo, shift: ShiftNo, s: Seq) -> Option<FoundSale>
         ensures there { is_some result ≡ has_sale (key shift p s) self.now.sales }
         ensures key { IfSome result (λ found. key_of found ≡ key shift p s) }
@@ -154,7 +156,7 @@ impl Buffer {
         }
     }
 
-    /// The transaction itself: as it was sold, and how it stands.
+    /// Returns the transaction itself: as it was sold, and its present state.
     pub fn sale(&self, found: &FoundSale) -> Sale
         requires { IsPlaced found.now self.now.sales }
         ensures { sale_of (key_of found.now) self.now.sales ≡ Some result }
@@ -163,7 +165,7 @@ impl Buffer {
         shelf.at(found.place)
     }
 
-    /// The transaction as a read shows it.
+    /// Returns the transaction as a read shows it.
     pub fn view(&self, found: &FoundSale) -> TransactionView
         requires placed { IsPlaced found.now self.now.sales }
         ensures { view_of_sale (key_of found.now) self.now.sales ≡ Some result }
@@ -172,9 +174,9 @@ impl Buffer {
         sale.view()
     }
 
-    /// Why the till's request for the transaction would be refused, if it would: `AlreadyCleared`
-    /// where a till has cleared it, `LockedByOther` where another till has locked it, and
-    /// `NotLocked` where none has, but the request isn't to lock it.
+    /// Returns why the till's request for the transaction would be refused, if it would:
+    /// `AlreadyCleared` if a till has cleared it, `LockedByOther` if another till has locked it,
+    /// and `NotLocked` if none has, and the request isn't to lock it.
     pub fn judge(&self, found: &FoundSale, request: &Request, t: TillNo) -> Result<(), Refusal>
         requires placed { IsPlaced found.now self.now.sales }
         ensures accepted { OnOk result
@@ -207,10 +209,10 @@ impl Buffer {
         answer
     }
 
-    /// The till locks a transaction, so that no other till can clear it: Locked. Where it has
-    /// locked it already, nothing changes. Refused, and nothing changes, with `NoSuchTransaction`
-    /// where it isn't there, `AlreadyCleared` where a till has cleared it, and `LockedByOther`
-    /// where another till has locked it.
+    /// Locks a transaction for the till, so that no other till can clear it: Locked. If this till
+    /// has locked it already, nothing changes. The refusals are `NoSuchTransaction` if there is
+    /// none, `AlreadyCleared` if a till has cleared it, and `LockedByOther` if another till has
+    /// locked it. They change nothing.
     pub fn lock(&mut self, p: FpNo, shift: ShiftNo, s: Seq, t: TillNo) -> Result<Answer, Refusal>
         ensures asked { Asked Request.Lock t (key shift p s) self.old.sales self.new.sales result }
         ensures rooms { self.new.rooms ≡ self.old.rooms }
@@ -218,10 +220,10 @@ impl Buffer {
         self.ask(p, shift, s, t, &Request::Lock)
     }
 
-    /// The till makes a transaction that it has locked payable again: Unlocked. Refused, and
-    /// nothing changes, with `NoSuchTransaction` where it isn't there, `AlreadyCleared` where a
-    /// till has cleared it, `LockedByOther` where another till has locked it, and `NotLocked` where
-    /// none has.
+    /// Makes a transaction that the till has locked payable again: Unlocked. The refusals are
+    /// `NoSuchTransaction` if there is none, `AlreadyCleared` if a till has cleared it,
+    /// `LockedByOther` if another till has locked it, and `NotLocked` if none has. They change
+    /// nothing.
     pub fn unlock(&mut self, p: FpNo, shift: ShiftNo, s: Seq, t: TillNo) -> Result<Answer, Refusal>
         ensures asked { Asked Request.Unlock t (key shift p s) self.old.sales self.new.sales
             result }
@@ -230,9 +232,9 @@ impl Buffer {
         self.ask(p, shift, s, t, &Request::Unlock)
     }
 
-    /// The till clears a transaction that it has locked, in the open shift, which comes last:
-    /// Cleared, with the transaction's cents. Nothing changes it any more. Refused, and nothing
-    /// changes, as `unlock` is.
+    /// Clears a transaction that the till has locked, in the open shift `current`: Cleared, with
+    /// the transaction's cents. Nothing changes the transaction any more. The refusals are those of
+    /// `unlock`.
     pub fn clear(
         &mut self,
         p: FpNo,
@@ -248,8 +250,8 @@ impl Buffer {
         self.ask(p, shift, s, t, &Request::Clear(current))
     }
 
-    /// Makes every transaction that the till has locked payable; every other stays. It is what a
-    /// sign-off does to the transactions.
+    /// Makes every transaction payable that the till has locked. Every other one stays. This is
+    /// what a sign-off does to the transactions.
     pub fn release_all(&mut self, t: TillNo)
         ensures sales { self.new.sales ≡ after_sign_off t self.old.sales }
         ensures rooms { self.new.rooms ≡ self.old.rooms }
@@ -261,7 +263,7 @@ impl Buffer {
         self.locked.forget(t);
     }
 
-    /// The transaction as a read shows it. None where it isn't there.
+    /// Returns the transaction as a read shows it; None if there is none.
     pub fn row(&self, p: FpNo, shift: ShiftNo, s: Seq) -> Option<TransactionView>
         ensures { result ≡ view_of_sale (key shift p s) self.now.sales }
     {
@@ -269,8 +271,8 @@ impl Buffer {
         Some(self.view(&found))
     }
 
-    /// The millilitres of product q in the transactions of this status. Those of all transactions
-    /// fit in 64 bits.
+    /// Returns the millilitres of product q in the transactions of this status. Those of all
+    /// transactions fit in 64 bits.
     pub fn sum(&self, q: ProductNo, status: Status) -> u64
         ensures value { result ≡ volume_by q status self.now.sales }
         ensures fits { volume_of q self.now.sales < 2 ^ 64 }
@@ -279,7 +281,7 @@ impl Buffer {
         self.sums.get(q, status)
     }
 
-    /// A figure summed over the transactions themselves: no sum that is kept is read. It fits in 64
+    /// Sums a figure over the transactions themselves, and reads no sum that is kept. It fits in 64
     /// bits.
     pub fn recount(&self, figure: &Figure) -> u64
         requires { figure_of figure.now self.now.sales < 2 ^ 64 }

@@ -9,19 +9,19 @@ use site_base::{ProductNo, ShiftNo, Status, TillNo};
 /// A figure that can be counted over the sales.
 #[derive(Clone, Copy, Debug)]
 pub enum Figure {
-    /// The millilitres of a product in the sales of a status.
+    /// The millilitres of a product in the sales with this status.
     Volume(ProductNo, Status),
     /// How many sales a till cleared in all shifts.
     Clears(TillNo),
     /// The cents of the sales that a till cleared in all shifts.
     Cents(TillNo),
-    /// How many sales were cleared in a shift by a till.
+    /// How many sales a till cleared in a shift.
     ClearsIn(ShiftNo, TillNo),
-    /// The cents of the sales that were cleared in a shift by a till.
+    /// The cents of the sales that a till cleared in a shift.
     CentsIn(ShiftNo, TillNo),
-    /// The millilitres that were cleared in a shift of a product.
+    /// The millilitres of a product that were cleared in a shift.
     ClearedIn(ShiftNo, ProductNo),
-    /// The cents of what was cleared in a shift of a product.
+    /// The cents of a product's sales that were cleared in a shift.
     ProductCentsIn(ShiftNo, ProductNo),
 }
 

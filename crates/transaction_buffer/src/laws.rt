@@ -1,12 +1,13 @@
-//! Laws of the transactions. They have no code: each is proved of the definitions that the
+//! Laws of the transactions. They have no code: each is proved for the definitions that the
 //! contracts of this crate cite.
 
 ghost use Rattle.transaction_buffer.specs.Laws.{DoAddUp, DoMove, DoTell, HasOneLocker};
 ghost use Rattle.transaction_buffer.specs.Laws.{IsClearedByItsLocker, IsClearedForGood};
 ghost use Rattle.transaction_buffer.specs.Laws.{IsCountedAfter, IsReadAfter, IsSummedAfter};
 
-/// What a reply tells. An answer: nothing refused the request, and it is the one of the table's
-/// line. A refusal: it is the one of the table's line, and no transaction changes.
+/// What a reply tells. An answer means that nothing refused the request, and it is the answer in
+/// the table's line. A refusal is the one in the table's line, and means that no transaction
+/// changes.
 pub fn replies_tell()
     ensures { DoTell }
 {}
@@ -23,21 +24,22 @@ pub fn cleared_by_its_locker()
     ensures { IsClearedByItsLocker }
 {}
 
-/// A transaction has one locker at most. A lock is accepted only where no other till has locked it,
-/// and an unlock only of the till that has; a lock by the till that has locked it changes nothing.
-/// An accepted lock makes the till that asked for it the locker; an accepted unlock or clear, and
-/// the sign-off of the locker, leave none; a new sale has the locker that it is sold with. Every
-/// other transaction keeps the locker that it had.
+/// A transaction has at most one locker. A lock is accepted only if no other till has locked the
+/// transaction, and an unlock only from the till that has. A lock by the till that has locked it
+/// changes nothing. An accepted lock makes the till that asked for it the locker. After an accepted
+/// unlock or clear, or the sign-off of the locker, there is none. A new sale has the locker with
+/// which it is sold. Every other transaction keeps its locker.
 pub fn one_locker()
     ensures { HasOneLocker }
 {}
 
-/// What stands under a name after each change: that of its own transaction, and no other's.
+/// What a name leads to after each change: its own transaction, and no other.
 pub fn read_after()
     ensures { IsReadAfter }
 {}
 
-/// Only a sale raises how many sales a point has made, by one, and how many of them are unpaid.
+/// Only a sale raises the number of sales that a point has made, by one, and the number of its
+/// unpaid sales.
 pub fn counted_after()
     ensures { IsCountedAfter }
 {}
@@ -52,7 +54,7 @@ pub fn volumes_add_up()
     ensures { DoAddUp }
 {}
 
-/// How each change moves a product's volumes from one status to another; only a sale changes the
+/// How each change moves a product's volumes from one status to another. Only a sale changes the
 /// volume in all sales.
 pub fn volumes_move()
     ensures { DoMove }

@@ -1,6 +1,6 @@
-//! The transactions of a site's fuelling points, from the sale until it is cleared: which are
-//! payable, which a till has locked, and which a till has cleared in which shift. A transaction is
-//! cleared once only, and only by the till that has locked it.
+//! The transactions of a site's fuelling points, from the sale until the clear: which are payable,
+//! which a till has locked, and which a till has cleared in which shift. A transaction is cleared
+//! only once, and only by the till that has locked it.
 #![tactic(auto)]
 
 mod buffer;

@@ -1,4 +1,4 @@
-//! Which till has locked what, by points.
+//! Which till has locked what, by point.
 
 ghost use Rattle.std.specs.Prelude.{◌≡◌, length};
 ghost use Rattle.site_base.specs.declared.limits.TheConstants.{TILL_CELLS};
@@ -10,19 +10,19 @@ use site_base::{FpNo, PointSet, TILL_CELLS, TillNo};
 /// has.
 #[derive(Clone, Copy, Debug, PartialEq, Eq)]
 pub struct Lockers {
-    /// The one that has locked the sale at the one place.
+    /// The till that has locked the sale at the one place.
     pub one: Option<TillNo>,
-    /// The one that has locked the sale at the other place.
+    /// The till that has locked the sale at the other place.
     pub other: Option<TillNo>,
 }
 
 /// For each till the points of which it has locked a sale: a set for each of the two places of a
-/// point's unpaid sales. Those of till t stand in cell t - 1. They take no memory.
+/// point's unpaid sales. The sets of till t are in cell t - 1. They take no memory.
 #[derive(Clone, Copy, Debug, Drop)]
 pub struct LockedPoints {
-    /// Those whose sale at the one place it has locked.
+    /// The points at which it has locked the sale at the one place.
     pub one: [PointSet; TILL_CELLS],
-    /// Those whose sale at the other place it has locked.
+    /// The points at which it has locked the sale at the other place.
     pub other: [PointSet; TILL_CELLS],
 }
 
@@ -31,7 +31,7 @@ impl LockedPoints {
     ghost use Rattle.transaction_buffer.specs.LockedSales.{no_lockers, IsForgotten, IsNoted};
     ghost use Rattle.transaction_buffer.specs.LockedSales.{KeepsOthers};
 
-    /// No till has locked anything.
+    /// Returns sets in which no till has locked anything.
     pub fn new() -> Self
         ensures { (p : ℕ) → IsNoted p no_lockers result }
     {
@@ -41,7 +41,7 @@ impl LockedPoints {
         }
     }
 
-    /// The lockers of the point were these and are those now.
+    /// Notes that the lockers of the point were `before` and are `after` now.
     pub fn note(&mut self, p: FpNo, before: Lockers, after: Lockers)
         requires { IsNoted p before self.old }
         ensures noted { IsNoted p after self.new }
@@ -53,7 +53,7 @@ impl LockedPoints {
         enter(&mut self.other, p, after.other);
     }
 
-    /// The till has locked nothing any more.
+    /// Notes that the till has locked nothing any more.
     pub fn forget(&mut self, t: TillNo)
         ensures { IsForgotten t self.old self.new }
     {

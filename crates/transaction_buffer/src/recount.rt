@@ -1,4 +1,4 @@
-//! Figures counted over the sales themselves: no sum that is kept is read.
+//! Figures counted over the sales themselves, without any sum that is kept.
 
 ghost use Rattle.std.specs.Prelude.{◌≡◌, ◌^◌, ◌<◌};
 ghost use Rattle.transaction_buffer.specs.Figures.{figure_in};
@@ -9,7 +9,7 @@ use crate::figure::Figure;
 use crate::sale::Sale;
 use crate::shelf::Shelf;
 
-/// The figure over the sales of one point, which fits.
+/// Sums the figure over the sales of one point. It fits in 64 bits.
 pub fn recount_among(sales: &[Sale], figure: &Figure) -> u64
     requires { sum_among (figure_in figure.now) sales.now < 2 ^ 64 }
     ensures { result ≡ sum_among (figure_in figure.now) sales.now }
@@ -21,7 +21,7 @@ pub fn recount_among(sales: &[Sale], figure: &Figure) -> u64
     sum
 }
 
-/// The figure over the sales on these shelves, which fits.
+/// Sums the figure over the sales on these shelves. It fits in 64 bits.
 pub fn recount_on(shelves: &[Shelf], figure: &Figure) -> u64
     requires { sum_on (figure_in figure.now) shelves.now < 2 ^ 64 }
     ensures { result ≡ sum_on (figure_in figure.now) shelves.now }

@@ -20,22 +20,22 @@ use std::mem::size_of;
 // A site that sells for years keeps every sale.
 const _: () = prove!(size_of::<Sale>() <= 48);
 
-/// A sale, and how it stands.
+/// A sale, and its present state.
 #[derive(Clone, Copy, Drop)]
 pub struct Sale {
     /// The shift in which it was sold.
     pub shift: ShiftNo,
-    /// The price taken.
+    /// The price at which it was sold.
     pub price: Mills,
-    /// What flowed.
+    /// The millilitres that flowed.
     pub volume: Millilitres,
     /// The amount due.
     pub cents: Cents,
-    /// The prepaid cents, where it was prepaid.
+    /// The prepaid cents, if it was prepaid.
     pub prepaid: Option<u32>,
     /// Its product.
     pub product: ProductNo,
-    /// How it stands.
+    /// Its present state.
     pub standing: Standing,
 }
 
@@ -66,8 +66,8 @@ impl Model for Sale {
 }
 
 impl Sale {
-    /// The sale of a shift that a view shows: payable where it names no till, else locked by that
-    /// till.
+    /// Returns the sale that a view shows, in this shift: payable if the view names no till,
+    /// otherwise locked by that till.
     pub fn new(shift: ShiftNo, view: &TransactionView) -> Self
         ensures value { result ≡ new_sale shift view.now }
         ensures range { (1 ≤ view.now.product) × (view.now.product ≤ PRODUCTS) }
@@ -88,7 +88,7 @@ impl Sale {
         }
     }
 
-    /// The sale as a read shows it.
+    /// Returns the sale as a read shows it.
     pub fn view(&self) -> TransactionView
         ensures { result ≡ view_of self.now }
     {
@@ -119,14 +119,14 @@ impl Sale {
         }
     }
 
-    /// The shift in which it was sold.
+    /// Returns the shift in which it was sold.
     pub fn shift(&self) -> ShiftNo
         ensures { result ≡ self.now.shift }
     {
         self.shift
     }
 
-    /// Its millilitres, if it is of this product; else 0.
+    /// Returns its millilitres if it is of this product, otherwise 0.
     pub fn volume_in(&self, q: ProductNo) -> u64
         ensures { result ≡ volume_in q self.now }
     {
@@ -137,7 +137,7 @@ impl Sale {
         }
     }
 
-    /// Its cents, if it is of this product; else 0.
+    /// Returns its cents if it is of this product, otherwise 0.
     pub fn product_cents(&self, q: ProductNo) -> u64
         ensures { result ≡ product_cents q self.now }
     {
@@ -148,7 +148,7 @@ impl Sale {
         }
     }
 
-    /// Has it this status?
+    /// Does it have this status?
     pub fn has_status(&self, status: Status) -> bool
         ensures { result ≡ has_status status self.now.standing }
     {
@@ -180,7 +180,7 @@ impl Sale {
         }
     }
 
-    /// The till that has locked it.
+    /// Returns the till that has locked it.
     pub fn locker(&self) -> Option<TillNo>
         ensures { result ≡ locker self.now.standing }
     {
@@ -190,7 +190,7 @@ impl Sale {
         }
     }
 
-    /// Is it cleared, payable or locked?
+    /// Returns whether it is payable, locked or cleared.
     pub fn status(&self) -> Status
         ensures { result ≡ status_of self.now.standing }
     {
@@ -201,7 +201,7 @@ impl Sale {
         }
     }
 
-    /// Its millilitres, if this till has locked it; else 0.
+    /// Returns its millilitres if this till has locked it, otherwise 0.
     pub fn volume_locked(&self, t: TillNo) -> u64
         ensures { result ≡ volume_locked_by self.now.product t self.now }
     {
@@ -211,7 +211,7 @@ impl Sale {
         }
     }
 
-    /// Why the transaction table would refuse the till's request, if it would.
+    /// Returns why the transaction table would refuse the till's request, if it would.
     pub fn judge(&self, request: &Request, t: TillNo) -> Result<(), Refusal>
         ensures accepted { OnOk result (refusal_in (line_for request.now t self.now) ≡ None) }
         ensures refused { IfErr result (λ refusal.
@@ -228,7 +228,7 @@ impl Sale {
         }
     }
 
-    /// The sale after a request that `judge` accepts, and the answer.
+    /// Returns the sale after a request that `judge` accepts, and the answer.
     pub fn grant(&self, request: &Request, t: TillNo) -> (Sale, Answer)
         requires { refusal_in (line_for request.now t self.now) ≡ None }
         ensures sale { result.0 ≡ sale_after_request request.now t self.now }
@@ -244,7 +244,7 @@ impl Sale {
         (Sale { standing, ..*self }, answer)
     }
 
-    /// The sale after the sign-off of a till: payable where this till has locked it.
+    /// Returns the sale after the sign-off of a till: payable if this till has locked it.
     pub fn unlock_all_of(&self, t: TillNo) -> Sale
         ensures { result ≡ unlock_all_of t self.now }
     {

@@ -27,7 +27,7 @@ use site_base::{GREATEST_SHIFT, NoMemory, Seq, ShiftNo, TillNo};
 use std::alloc::Global;
 use std::marker::Model;
 
-/// Unpaid transactions (payable or locked) that a fuelling point may have.
+/// The most unpaid transactions (payable or locked) of a fuelling point.
 pub const UNPAID_LIMIT: u8 = 2;
 
 /// The sales of a fuelling point in the order in which they were made. At most `UNPAID_LIMIT` of
@@ -60,7 +60,7 @@ impl Model for Shelf {
 }
 
 impl Shelf {
-    /// No sales. It takes no memory.
+    /// Returns a shelf without sales. It takes no memory.
     pub fn new(alloc: Global) -> Self
         ensures sales { result.sales ≡ [] }
         ensures lockers { result.lockers ≡ no_lockers }
@@ -72,8 +72,9 @@ impl Shelf {
         }
     }
 
-    /// Makes room for one more sale of whichever shift. Where there is no memory, nothing changes.
-    /// The sale's room comes before the shifts', and stays where the second allocation fails.
+    /// Makes room for one more sale of any shift. If memory runs out, the sales and the room for
+    /// them stay as they are. The room for the sale is made before that for the shifts, and its
+    /// memory stays if the second allocation fails.
     pub fn reserve(&mut self) -> Result<(), NoMemory>
         ensures sales { self.new.sales ≡ self.old.sales }
         ensures lockers { self.new.lockers ≡ self.old.lockers }
@@ -86,7 +87,7 @@ impl Shelf {
         Ok(())
     }
 
-    /// The number of the next sale in this shift.
+    /// Returns the number of the next sale in this shift; None if there is none left.
     pub fn next_seq(&self, shift: ShiftNo) -> Option<Seq>
         ensures { result ≡ next_after (made_in shift self.now.sales) }
     {
@@ -94,7 +95,7 @@ impl Shelf {
         Seq::new(span.count + 1)
     }
 
-    /// How many sales are unpaid.
+    /// Returns the number of unpaid sales.
     pub fn unpaid(&self) -> u8
         ensures value { result ≡ unpaid_among self.now.sales }
         ensures range { result ≤ UNPAID_LIMIT }
@@ -102,7 +103,7 @@ impl Shelf {
         self.unpaid.count()
     }
 
-    /// The place of the sale of this shift with this number, if there is one.
+    /// Returns the place of the sale of this shift with this number, if there is one.
     pub fn find(&self, shift: ShiftNo, number: Seq) -> Option<usize>
         ensures { result ≡ place_in shift number (shifts_of self.now.sales) }
     {
@@ -115,7 +116,7 @@ impl Shelf {
         }
     }
 
-    /// The sale at this place.
+    /// Returns the sale at this place.
     pub fn at(&self, place: usize) -> Sale
         requires { place < length self.now.sales }
         ensures { (d : Sale) → result ≡ slice_index_or self.now.sales place d }
@@ -123,8 +124,8 @@ impl Shelf {
         self.sales[place]
     }
 
-    /// Adds a sale, where room is reserved, no sale is of a later shift, its shift has a number
-    /// left and not too many are unpaid.
+    /// Adds a sale. Room for it has to be reserved, no sale may be of a later shift, its shift has
+    /// to have a number left, and fewer than `UNPAID_LIMIT` sales may be unpaid.
     pub fn push(&mut self, sale: Sale)
         requires room { 0 < self.old.room }
         requires order { NoneAfter sale.shift (shifts_of self.old.sales) }
@@ -141,7 +142,7 @@ impl Shelf {
         self.sales.push_reserved(sale);
     }
 
-    /// Puts a sale in the place of an unpaid one of the same shift.
+    /// Replaces an unpaid sale by one of the same shift.
     pub fn put(&mut self, place: usize, sale: Sale)
         requires within { place < length self.old.sales }
         requires unpaid { (d : Sale)
@@ -155,7 +156,8 @@ impl Shelf {
         self.sales[place] = sale;
     }
 
-    /// The tills that have locked the sales at its two unpaid places: no other till has locked any.
+    /// Returns the tills that have locked the sales at its two unpaid places. No other till has
+    /// locked a sale here.
     pub fn lockers(&self) -> Lockers
         ensures value { result ≡ self.now.lockers }
         ensures told { AreTold self.now.sales self.now.lockers }
@@ -175,7 +177,7 @@ impl Shelf {
         unlock_unpaid(&mut self.sales, unpaid, t);
     }
 
-    /// Moves what this till has locked from the locked sums to the payable ones.
+    /// Moves the volume of what this till has locked from the locked sums to the payable ones.
     pub fn unlock_sums(&self, sums: &mut Sums, t: TillNo)
         requires { CanMove (λ q. sum_among (volume_locked_by q t) self.now.sales) sums.old }
         ensures { AreMoved (λ q. sum_among (volume_locked_by q t) self.now.sales) sums.old
@@ -186,7 +188,7 @@ impl Shelf {
         unlock_sum_at(sales, self.unpaid.other, sums, t);
     }
 
-    /// The figure over its sales, which fits.
+    /// Sums the figure over its sales. It fits in 64 bits.
     pub fn recount(&self, figure: &Figure) -> u64
         requires { sum_among (figure_in figure.now) self.now.sales < 2 ^ 64 }
         ensures { result ≡ sum_among (figure_in figure.now) self.now.sales }

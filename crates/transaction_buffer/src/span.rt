@@ -1,14 +1,14 @@
-//! Where the sales of a shift stand on a shelf.
+//! Where the sales of a shift are on a shelf.
 
 ghost use Rattle.std.specs.Prelude.{◌≡◌, ◌<◌};
 ghost use Rattle.site_base.specs.declared.numbers.TheConstants.{GREATEST_SEQ};
 
-/// Where the sales of a shift stand on a shelf: so many, from this place on.
+/// Where the sales of a shift are on a shelf: from this place on, and how many.
 #[derive(Clone, Copy, Debug, PartialEq, Eq)]
 pub struct Span {
     /// The place of the first one.
     pub first: usize,
-    /// How many there are.
+    /// The number of sales.
     pub count: u16,
 }
 
@@ -18,7 +18,7 @@ impl Span {
     /// No sales.
     pub const NONE: Self = Span { first: 0, count: 0 };
 
-    /// With one more sale, which stands at this place.
+    /// Returns the span with one more sale, which is at this place.
     pub fn with_one_more(self, end: usize) -> Self
         requires { self.count < GREATEST_SEQ }
         ensures { result ≡ with_one_more self end }

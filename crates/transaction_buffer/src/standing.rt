@@ -1,8 +1,8 @@
-//! How a transaction stands.
+//! The state of a transaction.
 
 use site_base::{ShiftNo, TillNo};
 
-/// How a transaction stands.
+/// The state of a transaction.
 #[derive(Clone, Copy, Debug, PartialEq, Eq)]
 pub enum Standing {
     /// Unpaid, and locked by no till.

@@ -8,8 +8,7 @@ ghost use Rattle.transaction_buffer.specs.Sales.{status_of};
 use crate::sale::Sale;
 use site_base::{PRODUCT_CELLS, ProductNo, Status, TillNo};
 
-/// The millilitres of the sales, for each product and status. Those of product q stand in cell
-/// q - 1.
+/// The millilitres of the sales, for each product and status. Those of product q are in cell q - 1.
 #[derive(Clone, Copy, Debug, Drop)]
 pub struct Sums {
     /// Those of the payable sales.
@@ -25,7 +24,7 @@ impl Sums {
     ghost use Rattle.transaction_buffer.specs.KeptSums.{CanMove};
     ghost use Rattle.transaction_buffer.specs.Sums.{volume_locked_by};
 
-    /// No volume.
+    /// Returns sums without any volume.
     pub fn new() -> Self
         ensures { (q : ℕ) (status : Status) → kept_sum q status result ≡ 0 }
     {
@@ -36,7 +35,7 @@ impl Sums {
         }
     }
 
-    /// The sum of this product and status.
+    /// Returns the sum for this product and status.
     pub fn get(&self, q: ProductNo, status: Status) -> u64
         ensures { result ≡ kept_sum q status self.now }
     {
@@ -47,7 +46,7 @@ impl Sums {
         }
     }
 
-    /// Adds this sale's volume, which fits.
+    /// Adds this sale's volume. The sum fits in 64 bits.
     pub fn add(&mut self, sale: &Sale)
         requires { kept_sum sale.now.product (status_of sale.now.standing) self.old
             + sale.now.volume < 2 ^ 64 }
@@ -62,7 +61,7 @@ impl Sums {
         }
     }
 
-    /// Takes this sale's volume out, which is among them.
+    /// Subtracts this sale's volume, which is in the sums.
     pub fn remove(&mut self, sale: &Sale)
         requires { sale.now.volume
             ≤ kept_sum sale.now.product (status_of sale.now.standing) self.old }

@@ -8,9 +8,9 @@ ghost use Rattle.transaction_buffer.specs.UnpaidPlaces.{place_without};
 /// have.
 #[derive(Clone, Copy, Debug, PartialEq, Eq)]
 pub struct UnpaidPlaces {
-    /// One of them.
+    /// One place.
     pub one: Option<usize>,
-    /// The other.
+    /// The other place.
     pub other: Option<usize>,
 }
 
@@ -21,15 +21,15 @@ impl UnpaidPlaces {
         other: None,
     };
 
-    /// How many there are.
+    /// Returns the number of places.
     pub fn count(self) -> u8
         ensures { result ≡ one_if_kept self.one + one_if_kept self.other }
     {
         u8::from(self.one.is_some()) + u8::from(self.other.is_some())
     }
 
-    /// After one more sale, which stands at this place: with it, if it is unpaid, where there are
-    /// fewer than two.
+    /// Returns the places after one more sale, which is at this place. The place is among them if
+    /// the sale is unpaid and there were fewer than two.
     pub fn after_sale(self, place: usize, is_unpaid: bool) -> Self
         ensures one { result.one ≡ (if is_unpaid then place_with self.one place else self.one) }
         ensures other { result.other
@@ -51,7 +51,8 @@ impl UnpaidPlaces {
         }
     }
 
-    /// After a change of the unpaid sale at this place: without it, if it is paid now.
+    /// Returns the places after a change of the unpaid sale at this place. The place is dropped if
+    /// the sale is paid now.
     pub fn after_change(self, place: usize, is_unpaid: bool) -> Self
         ensures one { result.one ≡ (if is_unpaid then self.one else place_without self.one place) }
         ensures other { result.other

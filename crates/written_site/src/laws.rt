@@ -1,4 +1,4 @@
-//! What is true of the written site. The laws have no code: each is proved of the definitions.
+//! What is true of the written site. The laws have no code: each is proved for the definitions.
 
 mod fitting;
 mod metering;
@@ -35,37 +35,38 @@ pub fn passes_each_check()
     ensures { PassesEachCheck }
 {}
 
-/// A legal history is what its events make: the rows are theirs, and so are the replies and the
-/// site that it leads to. What a list of events makes is a legal history of just these events.
+/// A legal history is what its events make: its rows, its replies and its last site are theirs.
+/// What a list of events makes is a legal history of exactly these events.
 pub fn legal_histories_are_runs()
     ensures { AreLegalHistoriesRuns }
 {}
 
-/// For every list of events from the opening site of any configuration: between takes of a fuelling
-/// point by two different tills stands an end of the first one's hold. A take is an accepted
-/// Assign, Release, Prepay or TestRelease; an end is an accepted Unassign, the dispenser going
-/// Offline, an answer that tells that the release is taken back or the fuelling over, or the
+/// For every list of events from the opening site of any configuration: if two different tills take
+/// a fuelling point, one after the other, the first one's hold ends in between. A take is an
+/// accepted Assign, Release, Prepay or TestRelease. An end is an accepted Unassign, the dispenser
+/// going Offline, an answer that says that the release is taken back or the fuelling over, or the
 /// holder's sign-off while the point is closed, idle or calling.
 pub fn held_by_one()
     ensures { IsHeldByOne }
 {}
 
-/// The holds that stand after such a list of events are exactly the takes without a later end.
+/// The holds after such a list of events are exactly the takes without a later end.
 pub fn holds_are_unended_takes()
     ensures { AreUnendedTakes }
 {}
 
-/// Both of the rows of every legal history, such as a book keeps.
+/// The laws of `held_by_one` and of `holds_are_unended_takes` hold for the rows of every legal
+/// history, such as a book keeps.
 pub fn books_held_by_one()
     ensures { AreBooksHeldByOne }
 {}
 
-/// The opening site of each fit configuration is sound, and each event leaves a sound site sound:
-/// no point number stands twice; each point is whole, and held where it is released; the volume of
-/// a fuelling is what its meter has grown; a point that is released for a sale has room and a
-/// number for it; prices, readings, shifts and sales are in range; the locker of a sale is signed
-/// on, and no sale is cleared in a shift to come; and however the products are weighed, what the
-/// meters have counted is in the fuellings under way, in sales and in draws.
+/// The opening site of each fit configuration is sound, and each event leaves a sound site sound.
+/// In a sound site no point number is used twice; each point is whole, and held if it is released;
+/// the volume of a fuelling is the growth of its meter; a point that is released for a sale has
+/// room and a number for it; prices, readings, shifts and sales are in range; the locker of a sale
+/// is signed on, and no sale is cleared in a shift to come; and however the products are weighed,
+/// what the meters have counted is in the fuellings in progress, in sales and in draws.
 pub fn stays_sound()
     ensures { StaysSound }
 {}
@@ -76,34 +77,34 @@ pub fn runs_stay_sound()
     ensures { RunsStaySound }
 {}
 
-/// At a sound site, what the meters of a product have counted is in the fuellings under way, in
-/// sales that are payable, locked or cleared, and in draws, and fits in 64 bits. What flows in an
-/// event is metered and is in the fuelling; what is sold or drawn leaves the fuelling, and nothing
-/// else moves. A lock, an unlock and a clear move the volume of their transaction from one status
-/// to another.
+/// At a sound site, what the meters of a product have counted is in the fuellings in progress, in
+/// payable, locked or cleared sales, and in draws, and fits in 64 bits. What flows in an event is
+/// metered and is in the fuelling; what is sold or drawn leaves the fuelling, and nothing else
+/// moves. A lock, an unlock and a clear move the volume of their transaction from one status to
+/// another.
 pub fn volumes_add_up()
     ensures { DoVolumesAddUp }
 {}
 
-/// At a sound site, what flows fits in its fuelling. Where a point sells, the sale is what the site
-/// reads of the fuelling: its nozzle, its volume and the price that it took; fewer of the point's
-/// sales are unpaid than may be, the open shift has a number left for it, and the sums fit in 64
-/// bits with it. So do those of a draw.
+/// At a sound site, what flows fits in its fuelling. If a point sells, the sale is what the site
+/// reads of the fuelling: its nozzle, its volume and the price that it took. Then fewer of the
+/// point's sales are unpaid than may be, the open shift has a number left for the sale, and the
+/// sums fit in 64 bits with it. The sums fit with a draw too.
 pub fn finds_room()
     ensures { FindsRoom }
 {}
 
-/// A clear counts once, in the open shift: for its till, with its sale's cents, and for its sale's
-/// product, with its millilitres and its cents. Every other event leaves what was cleared in each
-/// shift and in all. A draw counts for its product in the open shift, and nothing else changes what
-/// was drawn. A shift that isn't open yet is empty.
+/// A clear counts once, in the open shift: for its till, with the cents of its sale, and for the
+/// sale's product, with its millilitres and its cents. No other event changes what was cleared in a
+/// shift or in all shifts. A draw counts for its product in the open shift, and nothing else
+/// changes what was drawn. A shift that isn't open yet is empty.
 pub fn figures_move()
     ensures { DoFiguresMove }
 {}
 
 /// At a sound site every figure of a shift fits in 64 bits: of a till, of a product, and the cents
-/// of all tills together. So do the clears and cents in all shifts, of a till and of all tills
-/// together. What tills cleared fits with one clear more, too, of a sale that isn't cleared.
+/// of all tills together. The clears and cents in all shifts fit too, of a till and of all tills
+/// together. What tills cleared also fits with one more clear, of a sale that isn't cleared.
 pub fn figures_fit()
     ensures { DoFiguresFit }
 {}

@@ -1,8 +1,8 @@
-//! The written one-thread site: the site's rules, without code. Whoever audits them reads this
-//! crate's `specs/`: the site state, the checks in their order, what an accepted event changes,
-//! runs over lists of events, what rows say of holds, and what a site always keeps. The laws that
-//! they obey are the contracts of the functions here, which are empty. The code that does what the
-//! rules say is the crate site_core.
+//! The written one-thread site: the site's rules, without code. To audit them, read this crate's
+//! `specs/`: the site state, the checks in their order, what an accepted event changes, runs over
+//! lists of events, what rows say of holds, and what a site always keeps. The laws that the rules
+//! obey are the contracts of the functions here, whose bodies are empty. The crate `site_core` has
+//! the code that follows the rules.
 #![tactic(auto)]
 
 mod laws;

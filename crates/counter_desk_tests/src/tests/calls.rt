@@ -39,7 +39,7 @@ fn report(rt: &impl Abort, p: u8, reading: u64) -> (FpNo, NozzleNo, Millilitres)
     )
 }
 
-/// The sale of this number in the open shift.
+/// Returns the sale of this number in the open shift.
 pub fn sale(rt: &impl Abort, number: u16) -> SaleId {
     SaleId {
         shift: None,

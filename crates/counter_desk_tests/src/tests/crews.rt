@@ -1,4 +1,4 @@
-//! Days of crews: a desk is opened, each crew's workers make the calls of their lists side by side,
+//! Days of crews: a desk is opened, each crew's workers make the calls of their lists in parallel,
 //! one crew after the other, and the desk is settled.
 
 ghost use Rattle.std.specs.Prelude.{◌≡◌, ◌^◌};
@@ -20,7 +20,7 @@ pub struct CrewsDay {
     pub settled: Settled,
 }
 
-/// Runs a day of these crews, each a list of calls for each of its workers.
+/// Runs a day of these crews. Each crew has a list of calls for each of its workers.
 pub fn run_crews<G: Gate + Sync, R: Threads + Wait + Abort + Sync>(
     rt: &R,
     alloc: Global,

@@ -1,4 +1,4 @@
-//! A day of one share: a desk is opened, something is done there, and it is settled. Where an
+//! A day of one share: a desk is opened, something is done there, and it is settled. If an
 //! allocation fails, the same is asked once more.
 
 ghost use Rattle.std.specs.Prelude.{◌≡◌, ◌^◌};
@@ -23,7 +23,7 @@ pub trait Day {
     ) -> Share<L, C>;
 }
 
-/// Says that an allocation failed in this run.
+/// Prints that an allocation failed in this run.
 pub fn say_failed(rt: &impl Eprint) {
     let _ = rt.eprintln("an allocation failed");
 }

@@ -1,4 +1,4 @@
-//! A desk whose book allows three rows: tills are signed off beyond.
+//! A desk whose book allows three rows. Tills are signed off beyond that.
 
 use super::calls::{by_till, point};
 use super::day::{Day, run_day};

@@ -1,4 +1,5 @@
-//! A worker whose list goes on when the book is full: it stops there, and signs its tills off.
+//! A worker whose list is longer than the book: it stops when the book is full, and signs its tills
+//! off.
 
 use super::calls::{Calls, by_till, point};
 use super::day::{Day, run_day};

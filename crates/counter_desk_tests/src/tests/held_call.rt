@@ -1,4 +1,4 @@
-//! Two workers run side by side: the one whose till is held at the gate goes on once the other was
+//! Two workers in parallel: the one whose till is held at the gate continues once the other was
 //! answered.
 
 use super::calls::{by_till, sign_on_both};

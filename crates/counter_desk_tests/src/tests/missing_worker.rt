@@ -1,5 +1,6 @@
-//! A crew of two, of whose workers one may not be started: its end says so, it has no share, and
-//! the other works all the same. Which one it is, the test says; `scripts/test faults` makes it be.
+//! A crew of two workers, one of which may not be started: its end says so, it has no share, and
+//! the other works all the same. The test prints which one it is; `scripts/test faults` makes that
+//! happen.
 
 use super::calls::sign_on_both;
 use super::crews::run_crews;

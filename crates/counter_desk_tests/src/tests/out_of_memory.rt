@@ -41,7 +41,7 @@ fn each_refused(rt: HostRuntime) -> Result<(), Fail> {
     Ok(())
 }
 
-/// A day in which a sale is paid. Where it is asked for, the opening site is seen first.
+/// A day in which a sale is paid. If it is asked for, the opening site is read first.
 #[derive(Drop)]
 pub struct PaidDay {
     pub sees_opening: bool,
@@ -230,7 +230,7 @@ fn volumes(rt: &impl Abort, product: &ProductView, calls: u64) {
     assert!(rt; product.metered == if calls < 6 { 0 } else { 10_000 });
 }
 
-/// Signs off a till that the share owes.
+/// Signs off a till to which the share owes that.
 pub fn leave<L: Ledger, C: Naming, R: Wait + Abort>(
     rt: &R,
     desk: &Desk<L, C>,

@@ -1,4 +1,4 @@
-//! A share that is out: its desk isn't settled before it came back.
+//! A share that is out: its desk isn't settled before it comes back.
 
 ghost use Rattle.std.specs.Prelude.{◌≡◌, ◌^◌};
 

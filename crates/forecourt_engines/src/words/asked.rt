@@ -27,12 +27,12 @@ pub struct Asked {
     pub actor: Actor,
     /// For what.
     pub event: Event,
-    /// The token, where the line names one.
+    /// The token, if the line names one.
     pub token: Option<Token>,
 }
 
-/// What the text of a line asks for: the words of an actor and of an event, and behind a comma,
-/// where there is one, those of a token.
+/// Reads what the text of a line asks for: the words of an actor and of an event, and, after a
+/// comma, if there is one, those of a token.
 pub fn read_asked(alloc: Global, text: &[u8]) -> Result<Asked, LineFault>
     ensures found { IfOk result (λ asked.
         IsAskedText text.now asked.actor asked.event asked.token) }
@@ -121,7 +121,7 @@ fn read_token_words(words: &[&[u8]]) -> Result<Token, WrongWord>
     Ok(token)
 }
 
-/// The actor and the event that words say: `t1 Release 3 volume 3000`.
+/// Reads the actor and the event of these words: `t1 Release 3 volume 3000`.
 pub fn read_request(words: &[&[u8]]) -> Result<(Actor, Event), WrongWord>
     ensures found { IfOk result (λ said.
         IsRequestText (map (λ w. w.now) words.now) said.0 said.1) }

@@ -1,5 +1,5 @@
-//! What stands behind the name of an event: so many words, and no more. Each word is judged before
-//! the next is looked for, so the first wrong one is told.
+//! Reads what follows the name of an event: a number of words, and no more. Each word is checked
+//! before the next one is looked for, so the fault names the first wrong one.
 
 ghost use Rattle.std.specs.Prelude.{◌≡◌, ◌≢◌, ◌≤◌, ◌∷◌, ℕ, [], decimal, map, IfOk, OnErr};
 ghost use Rattle.std.specs.Prelude.{OnOk};
@@ -21,7 +21,7 @@ const FIRST: usize = 3;
 /// The place of the last word that a line without a token can have.
 const LAST: usize = 5;
 
-/// No word.
+/// Reads no word.
 pub fn read_nothing(words: &[&[u8]]) -> Result<(), WrongWord>
     ensures found { OnOk result (map (λ w. w.now) words.now ≡ []) }
     ensures other { OnErr result (map (λ w. w.now) words.now ≢ []) }
@@ -29,7 +29,7 @@ pub fn read_nothing(words: &[&[u8]]) -> Result<(), WrongWord>
     expect_end(words, FIRST)
 }
 
-/// A fuelling point.
+/// Reads a fuelling point.
 pub fn read_point(words: &[&[u8]]) -> Result<FpNo, WrongWord>
     ensures found { IfOk result (λ p. ArePoint (map (λ w. w.now) words.now) p) }
     ensures other { OnErr result ((p : ℕ) → ¬ ArePoint (map (λ w. w.now) words.now) p) }
@@ -42,7 +42,7 @@ pub fn read_point(words: &[&[u8]]) -> Result<FpNo, WrongWord>
     Ok(p)
 }
 
-/// A product.
+/// Reads a product.
 pub fn read_product(words: &[&[u8]]) -> Result<ProductNo, WrongWord>
     ensures found { IfOk result (λ q. AreProduct (map (λ w. w.now) words.now) q) }
     ensures other { OnErr result ((q : ℕ) → ¬ AreProduct (map (λ w. w.now) words.now) q) }
@@ -55,7 +55,7 @@ pub fn read_product(words: &[&[u8]]) -> Result<ProductNo, WrongWord>
     Ok(q)
 }
 
-/// A transaction of a fuelling point.
+/// Reads a transaction of a fuelling point.
 pub fn read_sale(words: &[&[u8]]) -> Result<(FpNo, SaleId), WrongWord>
     ensures found { IfOk result (λ named.
         AreSale (map (λ w. w.now) words.now) named.0 named.1) }
@@ -70,7 +70,7 @@ pub fn read_sale(words: &[&[u8]]) -> Result<(FpNo, SaleId), WrongWord>
     Ok(named)
 }
 
-/// A fuelling point, and a nozzle with its meter's reading.
+/// Reads a fuelling point, and a nozzle with its meter's reading.
 pub fn read_meter(words: &[&[u8]]) -> Result<(FpNo, NozzleNo, Millilitres), WrongWord>
     ensures found { IfOk result (λ read.
         AreMeter (map (λ w. w.now) words.now) read.0 read.1 read.2) }
@@ -89,7 +89,7 @@ pub fn read_meter(words: &[&[u8]]) -> Result<(FpNo, NozzleNo, Millilitres), Wron
     Ok((p, n, reading))
 }
 
-/// A fuelling point, and an amount.
+/// Reads a fuelling point, and an amount.
 pub fn read_point_amount(words: &[&[u8]]) -> Result<(FpNo, u32), WrongWord>
     ensures found { IfOk result (λ read.
         ArePointAmount (map (λ w. w.now) words.now) read.0 read.1) }
@@ -104,7 +104,7 @@ pub fn read_point_amount(words: &[&[u8]]) -> Result<(FpNo, u32), WrongWord>
     Ok((p, amount))
 }
 
-/// A product, and an amount.
+/// Reads a product, and an amount.
 pub fn read_product_amount(words: &[&[u8]]) -> Result<(ProductNo, u32), WrongWord>
     ensures found { IfOk result (λ read.
         AreProductAmount (map (λ w. w.now) words.now) read.0 read.1) }
@@ -119,7 +119,7 @@ pub fn read_product_amount(words: &[&[u8]]) -> Result<(ProductNo, u32), WrongWor
     Ok((q, amount))
 }
 
-/// A fuelling point, and what a release of it is limited by.
+/// Reads a fuelling point, and the limit of its release.
 pub fn read_release(words: &[&[u8]]) -> Result<(FpNo, Preset), WrongWord>
     ensures found { IfOk result (λ read.
         AreRelease (map (λ w. w.now) words.now) read.0 read.1) }

@@ -14,7 +14,7 @@ use crate::words::event_name::{EventName, LoneName, MeterName, PointName, SaleNa
 use crate::words::wrong_word::WrongWord;
 use site_base::{Event, FpNo, Millilitres, NozzleNo, Preset, ProductNo, SaleId};
 
-/// The event of this name that the words behind it say.
+/// Reads the event of this name and the words after it.
 #[tactic(auto, using(crate::proofs::Unsaid::unsaid))]
 pub fn read_event(name: EventName, words: &[&[u8]]) -> Result<Event, WrongWord>
     ensures found { IfOk result (λ event. IsSaid name (map (λ w. w.now) words.now) event) }

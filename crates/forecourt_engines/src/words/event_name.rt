@@ -20,10 +20,10 @@ macro_rules! find_name {
     }};
 }
 
-/// The name of an event, by what stands behind it.
+/// The name of an event, by what follows it.
 #[derive(Clone, Copy, Debug, PartialEq, Eq)]
 pub enum EventName {
-    /// Nothing stands behind it.
+    /// Nothing follows.
     Alone(LoneName),
     /// A fuelling point.
     OfPoint(PointName),
@@ -31,7 +31,7 @@ pub enum EventName {
     OfMeter(MeterName),
     /// A transaction.
     OfSale(SaleName),
-    /// A fuelling point, and where it is limited `volume` or `money` with an amount.
+    /// A fuelling point, and, if it is limited, `volume` or `money` with an amount.
     Release,
     /// A fuelling point, and cents.
     Prepay,
@@ -41,7 +41,7 @@ pub enum EventName {
     ReadProduct,
 }
 
-/// Of an event that nothing is said of.
+/// The name of an event that nothing follows.
 #[derive(Clone, Copy, Debug, PartialEq, Eq)]
 pub enum LoneName {
     SignOn,
@@ -50,7 +50,7 @@ pub enum LoneName {
     ReadSite,
 }
 
-/// Of an event that names a fuelling point alone.
+/// The name of an event that names only a fuelling point.
 #[derive(Clone, Copy, Debug, PartialEq, Eq)]
 pub enum PointName {
     Open,
@@ -66,7 +66,7 @@ pub enum PointName {
     Offline,
 }
 
-/// Of an event of a nozzle's meter.
+/// The name of an event of a nozzle's meter.
 #[derive(Clone, Copy, Debug, PartialEq, Eq)]
 pub enum MeterName {
     ReplaceMeter,
@@ -75,7 +75,7 @@ pub enum MeterName {
     HangUp,
 }
 
-/// Of an event of a transaction.
+/// The name of an event of a transaction.
 #[derive(Clone, Copy, Debug, PartialEq, Eq)]
 pub enum SaleName {
     Lock,
@@ -85,7 +85,7 @@ pub enum SaleName {
 }
 
 impl EventName {
-    /// Is it the name of what a dispenser reports, and no till asks for?
+    /// Is it the name of a report of a dispenser, which no till asks for?
     pub fn is_report(&self) -> bool
         ensures { result ≡ is_report self.now }
     {
@@ -97,7 +97,7 @@ impl EventName {
     }
 }
 
-/// The name that the word is, if it is one.
+/// Returns the name that this word is, if it is one.
 pub fn name_of(word: &[u8]) -> Option<EventName>
     ensures found { IfSome result (λ name. word.now ≡ name_word name) }
     ensures other { IfNone result ((name : EventName) → word.now ≢ name_word name) }

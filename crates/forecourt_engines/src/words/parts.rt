@@ -24,7 +24,7 @@ pub const GREATEST_AMOUNT: u64 = u32::MAX as u64;
 /// The greatest token.
 const GREATEST_TOKEN: u64 = 31;
 
-/// The actor of a word: `t1` is till 1, `d3` the dispenser of fuelling point 3.
+/// Returns the actor of a word: `t1` is till 1, `d3` the dispenser of fuelling point 3.
 pub fn actor_of(word: &[u8]) -> Option<Actor>
     ensures found { IfSome result (λ actor. IsActorWord word.now actor) }
     ensures other { IfNone result ((actor : Actor) → ¬ IsActorWord word.now actor) }
@@ -53,7 +53,7 @@ fn till_of(word: &[u8]) -> Option<TillNo>
     TillNo::new(n as u8)
 }
 
-/// The fuelling point of this number.
+/// Returns the fuelling point of this number.
 pub fn point_of(word: &[u8]) -> Option<FpNo>
     ensures found { IfSome result (λ p. IsNumberWord 1 POINTS word.now p) }
     ensures other { IfNone result ((p : ℕ) → ¬ IsNumberWord 1 POINTS word.now p) }
@@ -62,7 +62,7 @@ pub fn point_of(word: &[u8]) -> Option<FpNo>
     FpNo::new(n as u8)
 }
 
-/// The product of this number.
+/// Returns the product of this number.
 pub fn product_of(word: &[u8]) -> Option<ProductNo>
     ensures found { IfSome result (λ q. IsNumberWord 1 PRODUCTS word.now q) }
     ensures other { IfNone result ((q : ℕ) → ¬ IsNumberWord 1 PRODUCTS word.now q) }
@@ -107,7 +107,7 @@ fn seq_of(word: &[u8]) -> Option<Seq>
     Seq::new(n as u16)
 }
 
-/// A number of four octets: cents, mills, or a preset's millilitres.
+/// Returns a number of four octets: cents, mills, or a preset's millilitres.
 pub fn amount_of(word: &[u8]) -> Option<u32>
     ensures found { IfSome result (λ n. IsNumberWord 0 GREATEST_AMOUNT word.now n) }
     ensures other { IfNone result ((n : ℕ) → ¬ IsNumberWord 0 GREATEST_AMOUNT word.now n) }
@@ -116,7 +116,7 @@ pub fn amount_of(word: &[u8]) -> Option<u32>
     Some(n as u32)
 }
 
-/// The token of this number.
+/// Returns the token of this number.
 pub fn token_of(word: &[u8]) -> Option<Token>
     ensures found { IfSome result (λ n. IsNumberWord 0 GREATEST_TOKEN word.now n) }
     ensures other { IfNone result ((n : ℕ) → ¬ IsNumberWord 0 GREATEST_TOKEN word.now n) }
@@ -125,7 +125,7 @@ pub fn token_of(word: &[u8]) -> Option<Token>
     Token::new(n as u8)
 }
 
-/// A nozzle and its meter's reading: `2@1000`.
+/// Returns a nozzle and its meter's reading: `2@1000`.
 pub fn meter_of(word: &[u8]) -> Option<(NozzleNo, Millilitres)>
     ensures found { IfSome result (λ meter. IsMeterWord word.now meter.0 meter.1) }
     ensures other { IfNone result ((n reading : ℕ) → ¬ IsMeterWord word.now n reading) }
@@ -142,7 +142,7 @@ pub fn meter_of(word: &[u8]) -> Option<(NozzleNo, Millilitres)>
     Some((nozzle, reading))
 }
 
-/// A transaction of a point: `3/1`, in shift 2 `3/2/1`.
+/// Returns a transaction of a point: `3/1`, or in shift 2 `3/2/1`.
 pub fn sale_of(word: &[u8]) -> Option<(FpNo, SaleId)>
     ensures found { IfSome result (λ named. IsSaleWord word.now named.0 named.1) }
     ensures other { IfNone result ((p : ℕ) → (sale : SaleId) → ¬ IsSaleWord word.now p sale) }

@@ -8,7 +8,7 @@ use crate::number::split_at_octet;
 use crate::words::splitting::{count_words, find_word};
 use crate::words::wrong_word::{Wanted, WrongWord};
 
-/// The first word, which stands at this place in its line, and those behind it.
+/// Returns the first word, which is at this place in its line, and the words after it.
 pub fn split_first<'w, 'a>(
     words: &'w [&'a [u8]],
     place: usize,
@@ -24,7 +24,7 @@ pub fn split_first<'w, 'a>(
     }
 }
 
-/// Nothing more: no word at this place of a line.
+/// Checks that no word is left, at this place of a line.
 pub fn expect_end(words: &[&[u8]], place: usize) -> Result<(), WrongWord>
     ensures found { OnOk result (map (λ w. w.now) words.now ≡ []) }
     ensures other { OnErr result (map (λ w. w.now) words.now ≢ []) }
@@ -35,8 +35,8 @@ pub fn expect_end(words: &[&[u8]], place: usize) -> Result<(), WrongWord>
     Err(WrongWord::new(place, Wanted::Nothing))
 }
 
-/// The word of a line behind so many others, if it has one: words are parted by spaces, and by the
-/// first comma.
+/// Returns the word of a line after `others` other words, if there is one. Words are separated by
+/// spaces, and by the first comma.
 pub fn word_behind(line: &[u8], others: usize) -> Option<&[u8]>
     ensures found { IfSome result (λ word. slice_get (line_words line.now) others ≡ Some word.now) }
     ensures other { IfNone result (length (line_words line.now) ≤ others) }

@@ -1,4 +1,4 @@
-//! A line in words, spelled as the request that it asks for.
+//! Writes a line in words as the request that it asks for.
 
 ghost use Rattle.std.specs.Prelude.{◌≡◌, ◌⊎◌, ◌++◌, ◌∷◌, [], IfErr, IfOk, OnOk};
 ghost use Rattle.forecourt_engines.specs.declared.words.wrong_word.LineFault.{LineFault};
@@ -22,11 +22,11 @@ use std::alloc::Global;
 /// The place of an event's name in its line.
 const NAME_PLACE: usize = 2;
 
-/// Appends what a line in words, which comes without its line feed, is spelled as: an empty line or
-/// a comment as it is, any other as the line of hexadecimal of the request that it asks for, with
-/// the token that it names, or else with this one. The answer is the token of the next line that
-/// names none: they rise from 1 to 31, and then begin again. After `NoMemory` the text is of no
-/// use; a line that asks for nothing appends nothing.
+/// Appends the spelling of a line in words, which has no line feed. An empty line or a comment is
+/// appended as it is. Any other line is appended as the line of hexadecimal of its request, with
+/// the token that it names, or otherwise with `next`. Returns the token for the next line that
+/// names none: tokens rise from 1 to 31, and then begin again. After `NoMemory` the text can't be
+/// used; a line that asks for nothing appends nothing.
 pub fn spell_line(
     alloc: Global,
     line: &[u8],

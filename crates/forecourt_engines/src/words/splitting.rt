@@ -8,7 +8,7 @@ ghost use Rattle.forecourt_engines.specs.LineWords.{words_in};
 use site_base::NoMemory;
 use std::alloc::Global;
 
-/// The words of a text: what stands between its spaces.
+/// Returns the words of a text: what is between its spaces.
 pub fn split_words(alloc: Global, text: &[u8]) -> Result<Vec<&[u8]>, NoMemory>
     ensures { IfOk result (λ words. map (λ w. w.now) words.items ≡ words_in text.now) }
 {
@@ -22,7 +22,7 @@ pub fn split_words(alloc: Global, text: &[u8]) -> Result<Vec<&[u8]>, NoMemory>
     Ok(words)
 }
 
-/// How many words a text has.
+/// Returns the number of words in a text.
 pub fn count_words(text: &[u8]) -> usize
     ensures { result ≡ length (words_in text.now) }
 {
@@ -36,7 +36,7 @@ pub fn count_words(text: &[u8]) -> usize
     count
 }
 
-/// The word of a text behind so many others, if it has one.
+/// Returns the word of a text after `others` other words, if there is one.
 pub fn find_word(text: &[u8], others: usize) -> Option<&[u8]>
     ensures found { IfSome result (λ word. slice_get (words_in text.now) others ≡ Some word.now) }
     ensures other { IfNone result (length (words_in text.now) ≤ others) }
@@ -54,7 +54,7 @@ pub fn find_word(text: &[u8], others: usize) -> Option<&[u8]>
     None
 }
 
-/// Has the line nothing but spaces, or a `#` behind them?
+/// Does the line have only spaces, or a `#` after them?
 pub fn is_comment(line: &[u8]) -> bool
     ensures { result ≡ is_comment line.now }
 {

@@ -1,4 +1,4 @@
-//! A wrong word as it is told: quoted, with its place and what could stand there.
+//! A wrong word as it is printed: quoted, with its place and what was expected there.
 
 use crate::number::split_at_octet;
 use crate::words::nearest::{nearest_name, parts_a_number};

@@ -1,4 +1,4 @@
-//! Which word of a line is wrong, and what could stand there.
+//! Which word of a line is wrong, and what was expected there.
 
 use std::fmt;
 use thiserror::Error;
@@ -8,9 +8,9 @@ use thiserror::Error;
 pub enum Wanted {
     /// `t1` to `t32`, or `d1` to `d64`.
     Actor,
-    /// The name of what a till asks for.
+    /// The name of a till's request.
     Request,
-    /// The name of what a dispenser reports.
+    /// The name of a dispenser's report.
     Report,
     /// The name of an event.
     EventName,
@@ -34,19 +34,19 @@ pub enum Wanted {
     Nothing,
 }
 
-/// The first word of a line, counted from 1, that can't stand there, and what could.
+/// The first wrong word of a line, counted from 1, and what was expected there.
 #[derive(Clone, Copy, Debug, PartialEq, Eq)]
 pub struct WrongWord {
-    /// The word's place; behind the last one where a word is missing.
+    /// The word's place; if a word is missing, the place after the last one.
     pub place: usize,
-    /// What could stand there.
+    /// What was expected there.
     pub wanted: Wanted,
 }
 
 /// Why a line in words asks for nothing.
 #[derive(Clone, Copy, Debug, PartialEq, Eq, Error)]
 pub enum LineFault {
-    /// A word can't stand there.
+    /// A word is wrong.
     #[error("word {}: {}", .0.place, .0.wanted)]
     Wrong(WrongWord),
     /// An allocation failed.
@@ -55,12 +55,12 @@ pub enum LineFault {
 }
 
 impl WrongWord {
-    /// The word at this place is wrong, and this could stand there.
+    /// Returns that the word at this place is wrong, and that this was expected there.
     pub fn new(place: usize, wanted: Wanted) -> WrongWord {
         WrongWord { place, wanted }
     }
 
-    /// The same word, where so many others stand before those among which it was counted.
+    /// Returns the same word in a line with `others` more words at its front.
     pub fn shift_by(self, others: usize) -> WrongWord {
         WrongWord {
             place: self.place.saturating_add(others),

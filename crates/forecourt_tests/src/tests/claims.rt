@@ -1,4 +1,4 @@
-//! fuelling_point: what no clause says of `Claims`, that a till's points are told where there is
+//! fuelling_point: what no clause says of `Claims`, that a till's points are returned if there is
 //! memory for them.
 
 mod out_of_memory;

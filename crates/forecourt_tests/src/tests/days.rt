@@ -1,4 +1,4 @@
-//! How a program ends whose day has a fault: its text, and its exit status.
+//! How a program ends if its day has a fault: its text, and its exit status.
 
 use counter_desk::SettleFault;
 use day_base::DayFault;

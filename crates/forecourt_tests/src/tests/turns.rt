@@ -1,4 +1,4 @@
-//! Replays whose turns are used up: fault 59, behind a front of the answers.
+//! Replays whose turns are used up: fault 59, after a prefix of the answers.
 
 use devices::{Counted, ReadFault, WriteFault};
 use forecourt_engines::replay::replay;

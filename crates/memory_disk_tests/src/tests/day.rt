@@ -36,9 +36,9 @@ pub struct Day {
 /// How far a day came, in kept rows.
 #[derive(Clone, Copy, Debug, PartialEq, Eq)]
 pub struct Reached {
-    /// Those up to the last message whose reply was sent.
+    /// The rows up to the last message whose reply was sent.
     pub sent: u64,
-    /// Those up to the last message that was heard.
+    /// The rows up to the last message that was heard.
     pub heard: u64,
 }
 

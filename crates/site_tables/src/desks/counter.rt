@@ -7,7 +7,7 @@ use site_base::{Actor, Event, NoRow, Placed, Row, TillNo};
 use std::sync::Wait;
 use std::sync::ledger::Ledger;
 
-/// How many rows a share has placed, and whether each is printed behind its place.
+/// How many rows a share has placed, and whether each is printed after its place.
 #[derive(Drop)]
 pub struct Counter {
     has_places: bool,
@@ -15,7 +15,7 @@ pub struct Counter {
 }
 
 impl Counter {
-    /// Nothing is placed yet.
+    /// Returns a counter of which nothing is placed yet.
     pub fn new(has_places: bool) -> Counter {
         Counter {
             has_places,
@@ -23,7 +23,7 @@ impl Counter {
         }
     }
 
-    /// How many rows were placed.
+    /// Returns how many rows were placed.
     pub fn placed(&self) -> u64 {
         self.placed
     }

@@ -14,7 +14,7 @@ pub struct Case {
 }
 
 impl Case {
-    /// The case of this title: a name, and words on its lines.
+    /// Returns the case of this title: a name, and words about its lines.
     pub fn new(alloc: Global, title: &str) -> anyhow::Result<Case> {
         let mut words = title.split(' ');
         let name = String::from_str(alloc, words.next().unwrap_or(""))?;
@@ -34,7 +34,7 @@ impl Case {
         Ok(case)
     }
 
-    /// One line more.
+    /// Adds a line.
     pub fn add(&mut self, line: &str) -> Result<(), AllocError> {
         self.text.extend_from_slice(line.as_bytes())?;
         if self.returns {
@@ -44,7 +44,7 @@ impl Case {
         Ok(())
     }
 
-    /// What its script has, or its fault.
+    /// Returns what its script has, or its fault.
     pub fn summarize(self, alloc: Global) -> Result<String, AllocError> {
         let Case {
             name,

@@ -7,7 +7,7 @@ use site_base::{Actor, Event, NoMemory, NoRow, Placed, Reply, Row, SiteConfig, T
 use site_book::SiteBook;
 use std::alloc::Global;
 
-/// Opens a book. After an allocation that failed it is opened again.
+/// Opens a book. If an allocation failed, it is opened again.
 pub fn open_book(rt: &impl Eprint, alloc: Global, config: &SiteConfig) -> anyhow::Result<SiteBook> {
     match SiteBook::try_open(alloc, config) {
         Ok(book) => Ok(book),
@@ -40,8 +40,8 @@ fn apply(
     }
 }
 
-/// Applies an event to the book beside a site, which has to answer what the site did, as the next
-/// row.
+/// Applies an event to the book that is kept beside a site, as the next row. The book has to answer
+/// what the site did.
 pub fn apply_beside(
     rt: &impl Eprint,
     book: &mut SiteBook,
@@ -62,8 +62,8 @@ pub fn apply_beside(
     Ok(())
 }
 
-/// Applies an event to the book that is kept alone, and prints the row, or that the book is full,
-/// if it is to be shown.
+/// Applies an event to a book without a site. If it is to be shown, prints the row, or that the
+/// book is full.
 pub fn apply_alone(
     rt: &(impl Print + Eprint),
     book: &mut SiteBook,
@@ -126,7 +126,7 @@ fn has_all_rows(book: &SiteBook) -> bool
     book.rows_in_memory() as u64 == book.len()
 }
 
-/// The figures that the book keeps, which have to be those of its audit.
+/// Returns the figures that the book keeps, which have to be those of its audit.
 pub fn audit(alloc: Global, book: &SiteBook) -> anyhow::Result<Totals> {
     ensure!(has_all_rows(book), "rows are forgotten");
     let totals = book.totals(alloc)?;

@@ -40,7 +40,7 @@ pub fn print_totals(rt: &impl Print, totals: &Totals) -> anyhow::Result<()> {
     Ok(())
 }
 
-/// The totals that are kept have to be those that are counted.
+/// Checks that the kept totals are those that are counted.
 pub fn ensure_counted(kept: &Totals, counted: &Totals) -> anyhow::Result<()> {
     ensure!(
         kept.products.as_slice() == counted.products.as_slice(),
@@ -53,7 +53,7 @@ pub fn ensure_counted(kept: &Totals, counted: &Totals) -> anyhow::Result<()> {
     Ok(())
 }
 
-/// Prints what each till cleared in a shift, if it did, and of each product what was cleared and
+/// Prints what each till cleared in a shift, if it did, and for each product what was cleared and
 /// drawn, if there was something.
 pub fn print_shift(rt: &impl Print, n: ShiftNo, row: Option<ShiftRow>) -> anyhow::Result<()> {
     let Some(row) = row else {

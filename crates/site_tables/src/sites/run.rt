@@ -1,10 +1,10 @@
-//! A site, run on the events of a paragraph.
+//! A site that is run on the events of a paragraph.
 
 use site_base::{Actor, Event, NoMemory, Reply, Row, SiteConfig};
 use site_core::{RunStopped, Site, run};
 use std::alloc::Global;
 
-/// Opens a site. After an allocation that failed it is opened again.
+/// Opens a site. If an allocation failed, it is opened again.
 pub fn open_site(rt: &impl Eprint, alloc: Global, config: &SiteConfig) -> anyhow::Result<Site> {
     match Site::try_open(alloc, config) {
         Ok(site) => Ok(site),
@@ -15,7 +15,7 @@ pub fn open_site(rt: &impl Eprint, alloc: Global, config: &SiteConfig) -> anyhow
     }
 }
 
-/// The replies of a run: those of its first `lost` events were lost with a failed allocation.
+/// The replies of a run. Those to its first `lost` events were lost with a failed allocation.
 #[derive(Drop)]
 pub struct Replies {
     lost: usize,
@@ -23,13 +23,13 @@ pub struct Replies {
 }
 
 impl Replies {
-    /// The reply to the event at a place, if it isn't lost.
+    /// Returns the reply to the event at a place, if it isn't lost.
     pub fn at(&self, place: usize) -> Option<&Reply> {
         self.replies.get(place.checked_sub(self.lost)?)
     }
 }
 
-/// Runs the events. After an allocation that failed the events that aren't done are run.
+/// Runs the events. If an allocation failed, the events that aren't done are run again.
 pub fn replies_to(
     rt: &impl Eprint,
     alloc: Global,

@@ -10,8 +10,7 @@ use site_book::SiteBook;
 use site_core::Site;
 use std::alloc::Global;
 
-/// A site and its book, which have to answer alike; or the book alone, beside a site that isn't
-/// run.
+/// A site and its book, which have to answer alike; or only the book, beside a site that isn't run.
 #[derive(Drop)]
 pub struct SiteAndBook {
     alloc: Global,

@@ -13,7 +13,7 @@ pub struct Draft {
 }
 
 impl Draft {
-    /// A site that begins, with the most rows of its history.
+    /// Returns a site that begins, with the most rows of its history.
     pub fn new(alloc: Global, rows: u32) -> Draft {
         Draft {
             rows,
@@ -23,7 +23,7 @@ impl Draft {
         }
     }
 
-    /// The configuration, if the site is fit.
+    /// Returns the configuration, if the site is fit.
     pub fn into_config(self) -> Option<SiteConfig> {
         SiteConfig::try_new(self.rows, self.managers, self.products, self.points)
     }

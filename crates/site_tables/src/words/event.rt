@@ -6,8 +6,8 @@ use forecourt_engines::words::{WordFault, read_request, split_words};
 use site_base::{Actor, Event, FpNo, Millilitres, SaleId, Seq, ShiftNo, TillNo};
 use std::alloc::Global;
 
-/// The reading and the number of a sale that events named last. A number behind a `+` is counted
-/// from there, so that a repeated paragraph goes on where it ended.
+/// The reading and the number of a sale that events named last. A number after a `+` is counted
+/// from there, so that a repeated paragraph continues where it ended.
 #[derive(Clone, Copy)]
 pub struct LastNamed {
     reading: u64,
@@ -15,13 +15,13 @@ pub struct LastNamed {
 }
 
 impl LastNamed {
-    /// Nothing is named yet.
+    /// Returns that nothing is named yet.
     pub fn new() -> LastNamed {
         LastNamed { reading: 0, seq: 0 }
     }
 
-    /// The event that a line says now; None where a number is out of its range. What it names is
-    /// noted.
+    /// Returns the event that a line says now, and notes what it names; None if a number is out of
+    /// its range.
     pub fn next(&mut self, said: &Said) -> Option<(Actor, Event)> {
         let event = if said.counts {
             self.count_from_last(&said.event)?
@@ -50,8 +50,8 @@ impl LastNamed {
     }
 }
 
-/// What a line says: where it counts, its reading, or its number less 1, is added to the one that
-/// was named last.
+/// What a line says. If it counts, its reading, or its number less 1, is added to the one that was
+/// named last.
 #[derive(Clone, Copy)]
 pub struct Said {
     actor: Actor,
@@ -81,22 +81,22 @@ fn with_sale(event: &Event, sale: SaleId) -> Option<Event> {
     }
 }
 
-/// The till with this number.
+/// Returns the till with this number.
 pub fn till_of(word: &str) -> Option<TillNo> {
     TillNo::new(word.parse().ok()?)
 }
 
-/// The fuelling point with this number.
+/// Returns the fuelling point with this number.
 pub fn point_of(word: &str) -> Option<FpNo> {
     FpNo::new(word.parse().ok()?)
 }
 
-/// The shift with this number.
+/// Returns the shift with this number.
 pub fn shift_of(word: &str) -> Option<ShiftNo> {
     ShiftNo::new(word.parse().ok()?)
 }
 
-/// What a line says.
+/// Reads what a line says.
 pub fn read_said(alloc: Global, text: &str) -> anyhow::Result<Said> {
     let Some((front, more)) = text.split_once('+') else {
         let (actor, event) = read_words(alloc, text)?;
@@ -134,7 +134,8 @@ fn read_words(alloc: Global, text: &str) -> anyhow::Result<(Actor, Event)> {
     }
 }
 
-/// `3/1`, `3/2/1`: sale 1 of point 3 in the open shift; that of shift 2.
+/// Returns the sale in a word: `3/1` is sale 1 of point 3 in the open shift, `3/2/1` that of shift
+/// 2.
 pub fn sale_named(word: &str) -> Option<(FpNo, SaleId)> {
     let (point, sale) = word.split_once('/')?;
     let point = point_of(point)?;

@@ -13,9 +13,9 @@ use std::alloc::Global;
 pub enum Line {
     /// An empty line, or a comment: it ends a paragraph, and is printed as it is.
     Text(String),
-    /// `rows 10`: a site begins. It is run, and a book of it with room enough beside it.
+    /// `rows 10`: a site begins. It is run, and a book of it with enough room beside it.
     Rows(u32),
-    /// `book 10`: a site begins, of which a book is kept alone, with at most so many rows.
+    /// `book 10`: a site begins, of which only a book is kept, with at most this many rows.
     Book(u32),
     /// `manager 1`
     Manager(TillNo),
@@ -23,19 +23,19 @@ pub enum Line {
     Product(ProductEntry),
     /// `point 2 1@0 2@1000`: each nozzle's product and opening reading.
     Point(PointEntry),
-    /// `repeat 998`: the paragraph of events that follows is run so often, in one run; its last
+    /// `repeat 998`: the paragraph of events that follows is run this often, in one run. Its last
     /// rows are printed.
     Repeat(u32),
     /// `show 3`: the point as the site shows it.
     Show(FpNo),
-    /// `totals`: what each till has cleared in all shifts, and its cents, and each product.
+    /// `totals`: what each till has cleared in all shifts, with its cents, and each product.
     Totals,
     /// `shift 2`: what was cleared and drawn in the shift, as the site shows it.
     Shift(ShiftNo),
     /// `sale 3/1`, `sale 3/2/1`: the sale as the site shows it.
     Sale(FpNo, SaleId),
-    /// `changes 2`: the rows from place 2 on that a dispenser is told of, and how many rows there
-    /// are.
+    /// `changes 2`: the rows from place 2 on of which a dispenser gets a notice, and how many rows
+    /// there are.
     Changes(u64),
     /// `leave 1`: the till is signed off, if it is signed on.
     Leave(TillNo),

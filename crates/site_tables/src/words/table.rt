@@ -14,13 +14,13 @@ use std::mem;
 pub enum Step {
     /// An empty line or a comment, printed as it is.
     Text(String),
-    /// A site of this configuration opens. It is run with a book beside it, or its book is kept
-    /// alone.
+    /// A site of this configuration opens. It is run with a book beside it, or only its book is
+    /// kept.
     Site {
         config: SiteConfig,
         alone: bool,
     },
-    /// A paragraph: its events, as often as it says, of which the last rows are printed.
+    /// A paragraph: its events, run as often as it says. The last rows are printed.
     Run {
         /// Each as often as the paragraph says.
         events: Vec<(Actor, Event)>,
@@ -50,7 +50,7 @@ impl Model for TableReader {
 }
 
 impl TableReader {
-    /// A table before its first line.
+    /// Returns a table before its first line.
     pub fn new(alloc: Global) -> TableReader {
         TableReader {
             alloc,
@@ -85,7 +85,7 @@ impl TableReader {
         Ok(())
     }
 
-    /// The end of the table: its steps.
+    /// Ends the table, and returns its steps.
     pub fn finish(self) -> anyhow::Result<Vec<Step>> {
         let mut reader = self;
         reader.end_paragraph()?;

@@ -1,4 +1,4 @@
-//! A listener over memory.
+//! A listener in memory.
 
 ghost use Rattle.std.specs.Prelude.{◌≡◌};
 
@@ -10,7 +10,7 @@ use std::mem;
 /// The octets of replies that a connection over memory takes without an allocation.
 const REPLY_ROOM: usize = 4_096;
 
-/// A listener over memory: its connections' octets stand ready. One of its calls may fail; one
+/// A listener in memory, which has the octets of its connections. One of its calls may fail; a call
 /// after the last connection does.
 #[derive(Drop)]
 pub struct Connections {
@@ -22,8 +22,8 @@ pub struct Connections {
 }
 
 impl Connections {
-    /// A listener of connections with these octets. Its call of this number fails, counted from 1;
-    /// none before the last connection where it is 0.
+    /// Returns a listener of connections with these octets. Its call number `fails_at` fails,
+    /// counted from 1; with 0 none does before the last connection.
     pub fn new(ready: Vec<Vec<u8>>, fails_at: u64) -> Connections
         ensures { ⟦<Connections as Accept>⟧.failed result ≡ 0 }
     {

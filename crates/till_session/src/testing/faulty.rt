@@ -1,11 +1,11 @@
-//! Devices over memory that fail where a test wants it.
+//! Devices in memory that fail where a test wants it.
 
 ghost use Rattle.std.specs.Prelude.{◌≡◌, ◌≤◌, Some, drop, vec_len};
 
 use std::io::{self, ErrorKind, Read, Write};
 
-/// A reader or a writer over memory: a reader of the octets that it holds, or a writer behind them.
-/// One of its calls may fail, and a write moves no more than so many octets.
+/// A reader or a writer in memory: a reader of the octets that it has, or a writer that appends to
+/// them. One of its calls may fail. A write takes at most a given number of octets.
 #[derive(Debug, Drop)]
 pub struct Faulty {
     octets: Vec<u8>,
@@ -17,8 +17,8 @@ pub struct Faulty {
 }
 
 impl Faulty {
-    /// A device over these octets. Its call of this number fails, counted from 1; none where it is
-    /// 0. A write takes at most `most` octets.
+    /// Returns a device over these octets. Its call number `fails_at` fails, counted from 1; with 0
+    /// none does. A write takes at most `most` octets.
     pub fn new(octets: Vec<u8>, fails_at: u64, most: usize) -> Faulty
         ensures reads { ⟦<Faulty as Read>⟧.remaining result ≡ Some octets.items }
         ensures writes { ⟦<Faulty as Write>⟧.contents result ≡ Some octets.items }
@@ -32,7 +32,7 @@ impl Faulty {
         }
     }
 
-    /// The octets that it holds.
+    /// Returns its octets.
     pub fn octets(&self) -> &[u8]
         ensures { Some result.now ≡ ⟦<Faulty as Write>⟧.contents self.now }
     {

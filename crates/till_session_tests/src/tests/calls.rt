@@ -11,7 +11,7 @@ pub type Calls = Vec<(Actor, Event)>;
 pub const TWO_TILLS: &str = "01 01 02 01 00 41 00 04 01 01 31 00\
  01 01 02 01 00 42 00 04 01 21 3C 00 01 01 02 02 00 43 00 04 01 01 31 00";
 
-/// Both of till 1 are acknowledged, and till 2 is told that it is another originator.
+/// Both requests of till 1 are acknowledged, and till 2 is refused as another originator.
 pub const TWO_TILLS_TOLD: &str = "02 01 01 01 00 E1 00 08 01 01 01 01 00 03 01 00\
  02 01 01 01 00 E2 00 08 01 21 01 01 00 03 01 00 02 02 01 01 00 E3 00 05 01 01 01 01 39";
 
@@ -25,7 +25,7 @@ pub const THREE_TOLD: &str = "02 01 01 01 00 E1 00 08 01 01 01 01 00 03 01 00\
  02 01 01 01 00 23 00 1E 01 23 10 01 03 11 01 00 12 01 00 13 01 00 72 04 00 00 00 00\
  73 08 00 00 00 00 00 00 00 00";
 
-/// The octets that a text spells in hexadecimal, with spaces between them.
+/// Returns the octets that a text has in hexadecimal, with spaces between them.
 pub fn octets(rt: &impl Abort, alloc: Global, text: &str) -> Result<Vec<u8>, NoMemory> {
     let mut digits = Vec::new(alloc);
     for digit in text.as_bytes() {

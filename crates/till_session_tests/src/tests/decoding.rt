@@ -1,4 +1,4 @@
-//! What a decoder keeps of a message to come.
+//! What a decoder keeps of an unfinished message.
 
 use super::calls::octets;
 use app_message::{Decoder, encode};

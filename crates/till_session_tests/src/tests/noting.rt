@@ -24,13 +24,13 @@ pub struct Noted {
     pub asked: usize,
     /// How many replies were written.
     pub written: usize,
-    /// How many octets the peer was told when each of the first requests was asked.
+    /// The number of octets that the peer had when each of the first requests was asked.
     pub told_before: [u64; FIRST],
-    /// How many it was told when the reply to it was said to be written.
+    /// The number of octets that it had when the reply to each was reported as written.
     pub told_after: [u64; FIRST],
 }
 
-/// A counter that hands its calls on, and notes them.
+/// A counter that passes its calls on, and notes them.
 pub struct Noting<K> {
     counter: K,
     told: Told,
@@ -38,7 +38,8 @@ pub struct Noting<K> {
 }
 
 impl<K: Counter> Noting<K> {
-    /// A counter that hands its calls on to another, of a session whose peer was told so much.
+    /// Returns a counter that passes its calls on to another one, for a session whose peer has this
+    /// many octets.
     pub fn new(counter: K, told: Told) -> Noting<K> {
         Noting {
             counter,
@@ -53,7 +54,7 @@ impl<K: Counter> Noting<K> {
         }
     }
 
-    /// What was noted, and the counter.
+    /// Returns what was noted, and the counter.
     pub fn into_parts(self) -> (Noted, K) {
         let Noting {
             counter,

@@ -7,10 +7,10 @@ use std::io::{self, ErrorKind, Read, Write};
 use std::rc::Rc;
 use till_session::testing::Faulty;
 
-/// How many octets a peer was told. Its two ends and the session's counter look at it.
+/// The number of octets that a peer was sent. Its two ends and the session's counter read it.
 pub type Told = Rc<Cell<u64>>;
 
-/// The count of a peer that was told nothing.
+/// Returns the count of a peer that was sent nothing.
 pub fn new_told(alloc: Global) -> Result<Told, NoMemory> {
     match Rc::new(alloc, Cell::new(0)) {
         Ok(told) => Ok(told),
@@ -21,27 +21,27 @@ pub fn new_told(alloc: Global) -> Result<Told, NoMemory> {
 /// A client that doesn't wait for replies: all that it has is there to be read at once.
 const AT_ONCE: &[(u64, usize)] = &[(0, usize::MAX)];
 
-/// What a session is served, and how its devices fail: at their call of that number, if there is
+/// What a session is served, and how its devices fail: at their call of this number, if there is
 /// one.
 #[derive(Drop)]
 pub struct Peer {
     /// What it sends in all.
     pub octets: Vec<u8>,
-    /// Once it was told so many octets, it has sent so many.
+    /// For each pair: once the peer was sent this many octets, it has sent that many.
     pub sends: &'static [(u64, usize)],
     pub read_fails: u64,
     pub write_fails: u64,
-    /// No read, and no write, moves more octets.
+    /// The most octets of a read, and of a write.
     pub read_most: usize,
     pub write_most: usize,
-    /// From its write call of this number on, so many are interrupted.
+    /// From its write call of this number on, this many calls are interrupted.
     pub interrupted_from: u64,
     pub interruptions: u64,
     pub turns: u64,
 }
 
 impl Peer {
-    /// A peer that doesn't wait for replies, and whose devices don't fail.
+    /// Returns a peer that doesn't wait for replies, and whose devices don't fail.
     pub fn of(octets: Vec<u8>) -> Peer {
         Peer {
             octets,
@@ -56,7 +56,7 @@ impl Peer {
         }
     }
 
-    /// The same peer, whose calls move at most so many octets.
+    /// Returns the same peer, whose calls move at most this many octets.
     pub fn in_pieces(self, most: usize) -> Peer {
         let mut peer = self;
         peer.read_most = most;
@@ -64,8 +64,8 @@ impl Peer {
         peer
     }
 
-    /// What the session reads, and what it writes to: it takes what it is told in this room, and
-    /// counts there how much it was told.
+    /// Returns what the session reads from, and what it writes to. The second takes what the peer
+    /// is sent in `room`, and counts it in `told`.
     pub fn into_ends(self, room: Vec<u8>, told: &Told) -> Result<(Sender, Taker), NoMemory> {
         let sender = Sender {
             size: self.octets.len(),
@@ -136,12 +136,12 @@ pub struct Taker {
 }
 
 impl Taker {
-    /// What it was told.
+    /// Returns what it was sent.
     pub fn octets(&self) -> &[u8] {
         self.memory.octets()
     }
 
-    /// How often it was called, interrupted calls too.
+    /// Returns how often it was called, interrupted calls included.
     pub fn calls(&self) -> u64 {
         self.calls
     }

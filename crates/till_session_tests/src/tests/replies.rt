@@ -1,5 +1,5 @@
-//! The messages that tell replies, by their octets: each answer, each refusal, and the numbers that
-//! come in place of a reply.
+//! The messages of replies, by their octets: each answer, each refusal, and the numbers that come
+//! in place of a reply.
 
 use super::calls::octets;
 use app_message::{Decoder, Fed, Message, encode};

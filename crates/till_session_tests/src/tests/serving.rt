@@ -1,4 +1,4 @@
-//! The server over memory.
+//! The server in memory.
 
 ghost use Rattle.std.specs.Prelude.{◌≡◌, ◌≤◌, ◌^◌};
 ghost use Rattle.till_session.specs.declared.server.TheConstants.{SESSIONS};

@@ -1,4 +1,4 @@
-//! One session over memory, at a desk of its own.
+//! One session in memory, at a desk of its own.
 
 ghost use Rattle.std.specs.Prelude.{◌≡◌, ◌^◌};
 
@@ -19,14 +19,15 @@ use till_session::{DeskCounter, Session, SessionEnd};
 #[derive(Drop)]
 pub struct Seen {
     pub end: SessionEnd,
-    /// What the peer was told, and in how many calls of its writer.
+    /// What the peer was sent, and in how many calls of its writer.
     pub told: Vec<u8>,
     pub calls: u64,
     pub noted: Noted,
     pub settled: Settled,
 }
 
-/// Opens a desk, makes these calls, serves the session, signs off who is owed, and settles.
+/// Opens a desk, makes these calls, serves the session, signs off each till to which that is owed,
+/// and settles.
 pub fn session<R: Wait + Abort>(
     rt: &R,
     alloc: Global,

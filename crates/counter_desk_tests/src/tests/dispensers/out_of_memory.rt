@@ -1,4 +1,4 @@
-//! A run that a failed allocation ends goes on with the steps that it left.
+//! A run that a failed allocation ends continues with the steps that it left.
 
 use super::site::{call, leave, lift, one_point, point, pump, till};
 use crate::tests::day::{Day, run_day, say_failed};

@@ -27,7 +27,7 @@ pub fn pump(rt: &impl Abort, volume: u64) -> Step {
     Step::Pump(Millilitres::new(volume).expect(rt, "a volume"))
 }
 
-/// Diesel at 1500 mills, and point 1 with one nozzle, from this reading.
+/// Returns a site with diesel at 1500 mills, and point 1 with one nozzle, from this reading.
 pub fn one_point(
     rt: &impl Abort,
     alloc: Global,
@@ -54,8 +54,8 @@ pub fn one_point(
     Ok(SiteConfig::try_new(rows, Vec::new(alloc), products, points).expect(rt, "a site"))
 }
 
-/// Till 1 makes a call, which is accepted; once more, if an allocation failed, and the share is as
-/// before.
+/// Makes an accepted call of till 1. If an allocation failed, the share is as before, and the call
+/// is made once more.
 pub fn call<L: Ledger, C: Naming, R: Wait + Abort + Eprint>(
     rt: &R,
     desk: &Desk<L, C>,
@@ -80,7 +80,7 @@ pub fn call<L: Ledger, C: Naming, R: Wait + Abort + Eprint>(
     }
 }
 
-/// Signs off till 1, which the share owes.
+/// Signs off till 1, to which the share owes that.
 pub fn leave<L: Ledger, C: Naming, R: Wait + Abort>(
     rt: &R,
     desk: &Desk<L, C>,

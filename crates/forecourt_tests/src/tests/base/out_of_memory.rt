@@ -1,5 +1,5 @@
-//! Made for runs in which one allocation fails: what was there stays, and the same call then
-//! answers as ever.
+//! For runs in which one allocation fails: what was there stays, and the same call then answers as
+//! usual.
 
 use site_base::{
     Actor, Answer, Event, FpNo, Listing, Millilitres, Mills, NoMemory, NozzleEntry, PointEntry,

@@ -1,4 +1,4 @@
-//! Made for runs in which one allocation fails: no hold changes, and the same call then tells the
+//! For runs in which one allocation fails: no hold changes, and the same call then returns the
 //! points.
 
 use super::*;

@@ -1,5 +1,5 @@
-//! Made for runs in which one allocation fails: the call says so, and the same call then answers
-//! as ever.
+//! For runs in which one allocation fails: the call says so, and the same call then answers as
+//! usual.
 
 use super::{assert_known, text_of};
 use site_file::{ConfigFault, read_config};

@@ -1,5 +1,5 @@
-//! Made for runs in which one allocation fails: the call says so, and the same call then answers
-//! as ever.
+//! For runs in which one allocation fails: the call says so, and the same call then answers as
+//! usual.
 
 use demo::{DemoScript, ScriptFault, Section, Step, read_script};
 use site_base::{Actor, Event, Millilitres, NozzleNo, PointState, TillNo};
