@@ -8,7 +8,7 @@ import subprocess
 import threading
 import time
 
-from shared.checks import expect, expect_end
+from shared.checks import Skipped, expect, expect_end
 from shared.running import close_input, run
 from shared.serving import start_day
 from shared.station import KNOWN_SITE
@@ -18,7 +18,12 @@ from tests.suite import make_folder, test, test_beside
 HERE = make_folder()
 LOOK = "see whether the request was done before you ask again"
 NOBODY = f"the station closed the connection before it replied: {LOOK}"
+BARRED = (
+    "the session has ended: its lines are of one till or dispenser, which asks at its door if it"
+    " has one; nobody asks as the house till"
+)
 SILENT = f"no reply came within 30 seconds: {LOOK}"
+NOBODY_ELSE = 65_534  # a user who has nothing
 PATIENCE, LATE = 30, 3  # seconds that `ask` waits for a reply, and that it may be late
 
 
@@ -81,9 +86,8 @@ def strict_ends_with_the_first_refusal():
 def a_line_of_another_is_answered_57():
     with start_station("--port", 0) as day:
         wanted = told("to t1, token 1: Done", "to t2, token 2: 57 OriginatorChanged")
-        expect_end("another", ask("t1 SignOn\nt2 SignOn\n", "--port", day.port), 0, wanted)
-        lines = "t1 SignOn\nt2 SignOn\nt1 SignOff\n"
-        expect_end("and one more", ask(lines, "--port", day.port), 1, wanted, NOBODY)
+        for lines in ("t1 SignOn\nt2 SignOn\n", "t1 SignOn\nt2 SignOn\nt1 SignOff\n"):
+            expect_end("another", ask(lines, "--port", day.port), 1, wanted, BARRED)
         end(day)
 
 
@@ -100,7 +104,7 @@ def at_a_door():
             expect_end(f"at {path.name}", ask(lines, "--door", path, "--strict"), 0, wanted)
         wanted = told("to t1, token 1: 57 OriginatorChanged")
         asked = ask(lines, "--door", doors / "dispenser-01", "--strict")
-        expect_end("at another's", asked, 1, wanted)
+        expect_end("at another's", asked, 1, wanted, BARRED)
         end(day)
 
 
@@ -223,6 +227,30 @@ def where_no_station_is():
     path = HERE / "nobody"
     why = f"nobody listens at {path}: start the station with this door"
     expect_end("no door", ask("t1 SignOn\n", "--door", path), 1, b"", why)
+
+
+@test
+def a_door_of_another_user():
+    """Who may not use a door is told so, and not that nobody listens."""
+    doors = HERE / "closed doors"
+    (doors / "till-01").mkdir(parents=True)
+    HERE.chmod(0o755)
+    path = doors / "till-01" / "socket"
+    with start_station("--doors", doors) as day:
+        (doors / "till-01").chmod(0o700)
+        try:
+            who = {"user": NOBODY_ELSE, "group": NOBODY_ELSE, "extra_groups": []}
+            asked = ask("t1 SignOn\n", "--door", path, **who)
+        except OSError as why:
+            raise Skipped(f"nobody can't run the program: {why}") from None
+        why = f"this user may not use {path}: ask as a user who may"
+        expect_end("another user", asked, 1, b"", why)
+        end(day)
+
+
+@test
+def wrong_options():
+    path = HERE / "nobody"
     for words in ((), ("--port", 1, "--door", path)):
         expect_end("one is wanted", ask("", *words), 2, b"", "one of --port and --door is wanted")
     for port in ("0", "65536", "+80", "-1", "x", ""):

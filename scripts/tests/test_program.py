@@ -159,19 +159,19 @@ def devices():
 
 @test_each
 def terminals():
-    """Alone, at a terminal, the program says what it waits for; else it says nothing."""
-    said = (
-        "type a message in hexadecimal, a line each, and Ctrl-D at the end;"
-        " forecourt --help lists"
-    )
-    master, slave = pty.openpty()
-    os.write(master, b"\x04")
-    ended = subprocess.run([PROGRAM], stdin=slave, capture_output=True, timeout=60, check=False)
-    for end in (master, slave):
-        os.close(end)
-    got = ended.returncode, ended.stdout, ended.stderr.decode()
-    expect("at a terminal", got, (0, b"", f"{said} the commands\n"))
-    expect_end("not at a terminal", forecourt(given=""), 0, b"")
+    """At a terminal a command says what is typed there; else it says nothing."""
+    messages, requests = "a message in hexadecimal", "a request in words"
+    for words, what in ([], messages), (["explain"], messages), (["spell"], requests):
+        master, slave = pty.openpty()
+        os.write(master, b"\x04")
+        how = {"stdin": slave, "capture_output": True, "timeout": PATIENCE}
+        ended = subprocess.run([PROGRAM, *words], **how)
+        for end in (master, slave):
+            os.close(end)
+        said = f"type {what}, a line each, and Ctrl-D at the end; forecourt --help lists the commands"
+        got = ended.returncode, ended.stdout, ended.stderr.decode()
+        expect(f"{words} at a terminal", got, (0, b"", f"{said}\n"))
+        expect_end(f"{words} not at a terminal", forecourt(*words, given=""), 0, b"")
 
 
 def expect_mistake(*words):

@@ -14,6 +14,10 @@ use std::alloc::Global;
 use std::io::{ErrorKind, Read, Write};
 use std::process::ExitCode;
 
+/// The number that the station replies before it ends a session whose messages may not be of their
+/// originator.
+const ORIGINATOR_CHANGED: u8 = 57;
+
 /// Asks for each line of this input, one after another, and prints the replies. With `strict` it
 /// ends with the first one that is refused.
 pub(crate) fn ask_all<R: Print + Eprint + AllocGlobal, I: Read + Drop, S: Read + Write + Drop>(
@@ -53,6 +57,8 @@ enum Answered {
     Done,
     /// Its request was refused, or a number stands in place of a reply.
     Refused,
+    /// The session may not be of this till or dispenser: the station has ended it.
+    Barred,
 }
 
 /// A connection to a station, and what came over it so far.
@@ -127,8 +133,10 @@ impl<S: Read + Write + Drop> Asking<S> {
     fn wait<R: Print + Eprint>(&mut self, rt: &R, token: Token) -> Result<Answered, ExitCode> {
         for _ in 0..TURNS {
             let messages = self.hear(rt)?;
-            if let Some(answered) = print_all(rt, self.alloc, &messages, token)? {
-                return Ok(answered);
+            match print_all(rt, self.alloc, &messages, token)? {
+                Some(Answered::Barred) => return Err(exit_barred(rt)),
+                Some(answered) => return Ok(answered),
+                None => {}
             }
         }
         Err(exit_replay(rt, Some(ReplayFault::Read(ReadFault::TurnLimit))))
@@ -217,6 +225,7 @@ fn print_one<R: Print + Eprint>(
     }
     Ok(match text.meaning {
         Meaning::Told(Ok(_)) => Some(Answered::Done),
+        Meaning::Numbered(ORIGINATOR_CHANGED) => Some(Answered::Barred),
         Meaning::Told(Err(_)) | Meaning::Numbered(_) => Some(Answered::Refused),
         _ => None,
     })
@@ -228,6 +237,17 @@ fn exit_closed(rt: &impl Eprint) -> ExitCode {
         eprintln!(rt;
             "the station closed the connection before it replied: \
              see whether the request was done before you ask again"
+        ),
+        FAULT,
+    )
+}
+
+/// The station ended the session with its reply.
+fn exit_barred(rt: &impl Eprint) -> ExitCode {
+    exit_with(
+        eprintln!(rt;
+            "the session has ended: its lines are of one till or dispenser, which asks at its \
+             door if it has one; nobody asks as the house till"
         ),
         FAULT,
     )

@@ -4,7 +4,7 @@ use crate::asking::ask_all;
 use crate::lines::Lines;
 use command_line::AskOptions;
 use program_io::{COMMAND_LINE, FAULT, exit_no_memory, exit_with, is_folder};
-use std::io::Read;
+use std::io::{ErrorKind, Read};
 use std::net::{Ipv4Addr, Net, SocketAddr, SocketAddrV4, TcpListener, TcpStream};
 use std::os::unix::net::UnixStream;
 use std::process::ExitCode;
@@ -103,11 +103,20 @@ fn ask_door<R: Files + Net + Print + Eprint + AllocGlobal, I: Read + Drop>(
     let Ok(socket) = socket else {
         return exit_no_memory(rt);
     };
-    let Ok(stream) = UnixStream::connect(rt, socket.as_str()) else {
-        return exit_with(
-            eprintln!(rt; "nobody listens at {socket}: start the station with this door"),
-            FAULT,
-        );
+    let stream = match UnixStream::connect(rt, socket.as_str()) {
+        Ok(stream) => stream,
+        Err(error) if error.kind() == ErrorKind::PermissionDenied => {
+            return exit_with(
+                eprintln!(rt; "this user may not use {socket}: ask as a user who may"),
+                FAULT,
+            );
+        }
+        Err(_) => {
+            return exit_with(
+                eprintln!(rt; "nobody listens at {socket}: start the station with this door"),
+                FAULT,
+            );
+        }
     };
     let _ = stream.set_read_timeout(Some(Duration::from_secs(REPLY_SECONDS)));
     ask_all(rt, lines, stream, strict)

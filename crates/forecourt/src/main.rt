@@ -30,6 +30,12 @@ use std::sync::Wait;
 use std::thread::Threads;
 use unmarked_input::Unmarked;
 
+/// A line of those who read messages.
+const MESSAGE: &str = "a message in hexadecimal";
+
+/// A line of those who read requests.
+const REQUEST: &str = "a request in words";
+
 fn main(rt: HostRuntime) -> ExitCode {
     let words = match read_words(&rt) {
         Ok(words) => words,
@@ -58,22 +64,19 @@ fn read_words(rt: &HostRuntime) -> Result<Vec<String>, ExitCode> {
 /// the input begins with is dropped. If the reader of its output has closed the pipe, a command that
 /// prints what it reads ends quietly.
 fn run<T: Threads + Wait + Sync>(rt: &HostRuntime, threads: &T, command: Command<'_>) -> ExitCode {
-    let (input, quiet) = (Unmarked::new(rt.stdin()), QuietHost::new(rt));
+    let quiet = QuietHost::new(rt);
     let host = &quiet;
     let status = match command {
-        Command::ReplayHere => {
-            say_what_it_waits_for(rt, &rt.stdin());
-            run_replay_here(host, input)
-        }
+        Command::ReplayHere => run_replay_here(host, open_input(rt, MESSAGE)),
         Command::Check(site) => run_check(host, site),
         Command::Replay(options) if is_folder(rt, options.site) => run_replay_folder(host, options),
-        Command::Replay(options) => run_replay(host, input, options),
+        Command::Replay(options) => run_replay(host, open_input(rt, MESSAGE), options),
         Command::Report(options) if is_folder(rt, options.site) => run_report_folder(host, options),
-        Command::Report(options) => run_report(host, input, options),
+        Command::Report(options) => run_report(host, open_input(rt, MESSAGE), options),
         Command::Sales(options) if is_folder(rt, options.site) => run_sales_folder(host, options),
-        Command::Sales(options) => run_sales(host, input, options),
+        Command::Sales(options) => run_sales(host, open_input(rt, MESSAGE), options),
         Command::Meters(options) if is_folder(rt, options.site) => run_meters_folder(host, options),
-        Command::Meters(options) => run_meters(host, input, options),
+        Command::Meters(options) => run_meters(host, open_input(rt, MESSAGE), options),
         Command::Serve(options) => run_serve(rt, threads, options),
         Command::Station(options) => match rt.clone() {
             Ok(errors) => run_station(rt, threads, rt.stdin(), errors, options),
@@ -86,22 +89,24 @@ fn run<T: Threads + Wait + Sync>(rt: &HostRuntime, threads: &T, command: Command
         Command::Story(options) => run_story(host, options),
         Command::Explain(options) => match find_folder(rt, options) {
             Some(folder) => run_explain_folder(host, folder, options),
-            None => run_explain(host, input, options),
+            None if options.what.is_some() => run_explain(host, rt.stdin(), options),
+            None => run_explain(host, open_input(rt, MESSAGE), options),
         },
-        Command::Spell => run_spell(host, input),
-        Command::Ask(options) => run_ask(rt, input, options),
+        Command::Spell => run_spell(host, open_input(rt, REQUEST)),
+        Command::Ask(options) => run_ask(rt, open_input(rt, REQUEST), options),
     };
     quiet.end(status)
 }
 
-/// Says at a terminal what the program waits for there, without a command.
-fn say_what_it_waits_for(rt: &HostRuntime, input: &Stdin) {
+/// Standard input without its byte order mark. At a terminal it is said what is to be typed there.
+fn open_input(rt: &HostRuntime, what: &str) -> Unmarked<Stdin> {
+    let input = rt.stdin();
     if input.is_terminal() {
         let _ = eprintln!(rt;
-            "type a message in hexadecimal, a line each, and Ctrl-D at the end; \
-             forecourt --help lists the commands"
+            "type {what}, a line each, and Ctrl-D at the end; forecourt --help lists the commands"
         );
     }
+    Unmarked::new(input)
 }
 
 /// The folder whose rows are to be explained. A number is none.

@@ -134,7 +134,10 @@ fn run_opened<
         Ok(open) => open,
         Err(status) => return status,
     };
-    warn_of_no_doors(rt, options.doors, &open.doors);
+    if let Err(status) = check_doors(rt, &options, &open.doors) {
+        open.sockets.remove(rt);
+        return status;
+    }
     let has_feed = plans.station.feed.is_some() || open.doors.has_feed();
     let has_page = plans.station.page.is_some();
     let book = opened.station.book();
@@ -168,13 +171,25 @@ fn run_opened<
     exit_day(rt, end)
 }
 
-/// Says that the folder of the doors, if there is one, has none: each node may speak over TCP then.
-fn warn_of_no_doors(rt: &impl Eprint, folder: Option<&str>, doors: &Doors) {
-    if let Some(folder) = folder {
-        if doors.len() == 0 {
-            let _ = eprintln!(rt; "no doors in {folder}: each node may connect over TCP");
-        }
+/// Says that the folder of the doors, if there is one, has none. Each node may speak over TCP then;
+/// without a port nobody could connect, and the program ends.
+fn check_doors(
+    rt: &impl Eprint,
+    options: &StationOptions<'_>,
+    doors: &Doors,
+) -> Result<(), ExitCode> {
+    let Some(folder) = options.doors else {
+        return Ok(());
+    };
+    if doors.len() > 0 {
+        return Ok(());
     }
+    if options.port.is_none() {
+        let advice = "nobody could connect: make a folder for each node in it, or give --port";
+        return Err(exit_with(eprintln!(rt; "no doors in {folder}\n{advice}"), FAULT));
+    }
+    let _ = eprintln!(rt; "no doors in {folder}: each node may connect over TCP");
+    Ok(())
 }
 
 /// The house till of this number, if there is to be one; the number, where it is no manager's.
