@@ -168,9 +168,9 @@ def terminals():
         ended = subprocess.run([PROGRAM, *words], **how)
         for end in (master, slave):
             os.close(end)
-        said = f"type {what}, a line each, and Ctrl-D at the end; forecourt --help lists the commands"
+        said = f"type {what}, a line each, and Ctrl-D at the end; forecourt --help lists the"
         got = ended.returncode, ended.stdout, ended.stderr.decode()
-        expect(f"{words} at a terminal", got, (0, b"", f"{said}\n"))
+        expect(f"{words} at a terminal", got, (0, b"", f"{said} commands\n"))
         expect_end(f"{words} not at a terminal", forecourt(*words, given=""), 0, b"")
 
 
