@@ -76,6 +76,11 @@ class Figure(typing.NamedTuple):
         )
 
 
+def write_count(number, what):
+    """`1 client`, `1,000 clients`."""
+    return f"{number:,} {what}{'s' * (number != 1)}"
+
+
 def write_number(number):
     if number is None:
         return ""
