@@ -16,11 +16,10 @@ help:
 	@echo '              suite of these tests, or one test'
 	@echo 'make package  builds the program, and makes the Debian package of it: out/packages'
 	@echo 'make audit    the mutants of the audit, of every crate or of CRATES="a b"'
-	@echo 'make bench    messages a second, memory, and their growth with the input; calls a second of'
-	@echo '              tills that collide; what a message costs with 5 and 64 points and with up to'
-	@echo '              100,000 sales, a row of a book of a million, and a request of a server and of'
-	@echo '              a station beside an echo; with a history beside Redis, and a start on one;'
-	@echo '              tills beside a page that is looked at, and a day beside a flood'
+	@echo 'make bench    measures what a message, a row, a request and a notice cost, a start, and tills'
+	@echo '              beside feeds, a page and a flood, on a small machine and a slow disk too: one'
+	@echo '              table, each figure beside its yardstick (an echo, Redis if it is installed).'
+	@echo '              Takes ten minutes; the machine must have nothing else to do'
 
 run:
 	@cd crates/forecourt && rt try < stdin
@@ -46,13 +45,4 @@ audit:
 	scripts/audit $(CRATES)
 
 bench: build
-	@scripts/bench/replays $(PROGRAM)
-	@scripts/bench/fuellings $(PROGRAM) 20000 40000 100000
-	@scripts/bench/book $(PROGRAM)
-	@scripts/bench/server $(PROGRAM)
-	@scripts/bench/station $(PROGRAM)
-	@scripts/bench/station --history $(PROGRAM)
-	@scripts/bench/page $(PROGRAM)
-	@scripts/bench/feeds $(PROGRAM)
-	@scripts/bench/flood $(PROGRAM)
-	@scripts/bench/instructions $(PROGRAM)
+	@scripts/bench/all $(PROGRAM)

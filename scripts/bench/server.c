@@ -2,6 +2,7 @@
  *
  *   server reads PORT CLIENTS REQUESTS    tills that read a fuelling point each
  *   server echo PORT CLIENTS REQUESTS     the same octets, to a server that sends them back
+ *   server ping PORT CLIENTS REQUESTS     PING, to Redis
  *   server sales PORT PAIRS CYCLES        pairs of a till and a dispenser that sell and clear
  *
  * Each client has one request outstanding, looks at every reply, and keeps how long it took.
@@ -48,15 +49,19 @@ static void ask_text(int s, int node_place, int node, const char *request, const
     ask(s, sent, length, wanted, due);
 }
 
-/* Reads of a point, or the same octets to and fro. */
+/* Reads of a point, the same octets to and fro, or pings. */
 static void make_reads(struct client *c)
 {
     unsigned char sent[MOST], wanted[MOST];
     int s = connect_here(), is_echo = strcmp(kind, "echo") == 0;
+    int is_read = strcmp(kind, "reads") == 0;
     int length = parse_octets("01 01 02 01 00 00 00 02 01 21", sent), due = length;
     sent[3] = c->number;
     if (is_echo) {
         memcpy(wanted, sent, length);
+    } else if (!is_read) {
+        length = sprintf((char *)sent, "PING\r\n");
+        due = sprintf((char *)wanted, "+PONG\r\n");
     } else {
         ask_text(s, 3, c->number, "01 01 02 01 00 41 00 04 01 01 31 00",
              "02 01 01 01 00 E1 00 08 01 01 01 01 00 03 01 00");
@@ -70,8 +75,10 @@ static void make_reads(struct client *c)
             pthread_barrier_wait(&begin);
             start = read_clock();
         }
-        sent[5] = (unsigned)n % 32;
-        wanted[5] = is_echo ? sent[5] : 0x20 | sent[5];
+        if (is_echo || is_read) {
+            sent[5] = (unsigned)n % 32;
+            wanted[5] = is_echo ? sent[5] : 0x20 | sent[5];
+        }
         double before = read_clock();
         ask(s, sent, length, wanted, due);
         if (n >= 0)
@@ -161,7 +168,7 @@ int main(int count, char **words)
 {
     program = "bench/server";
     if (count != 5)
-        fail("reads|echo|sales PORT CLIENTS REQUESTS");
+        fail("reads|echo|ping|sales PORT CLIENTS REQUESTS");
     kind = words[1];
     port = atoi(words[2]);
     clients = atoi(words[3]);

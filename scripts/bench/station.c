@@ -1,12 +1,17 @@
 /* The clients of scripts/bench/station, all on one thread:
  *
- *   station reads PORT CLIENTS REQUESTS     tills that read a fuelling point
+ *   station reads PORT CLIENTS REQUESTS     tills that read a fuelling point; as they have no more
+ *                                           than 128 sessions, the others are dispensers and nodes
+ *                                           that no site has, whose reads are refused
  *   station closes PORT CLIENTS REQUESTS    tills that close a closed point: refusals, whose rows
  *                                           a history keeps
  *   station echo PORT CLIENTS REQUESTS      the same octets, to a server that sends them back
  *   station ping PORT CLIENTS REQUESTS      PING, to Redis
  *   station sets PORT CLIENTS REQUESTS      SET of a value as long as a request, to Redis
  *   station notices PORT 64 REQUESTS        a till that releases the points of 64 dispensers
+ *   station changes PORT CLIENTS REQUESTS   a till that releases the point of one dispenser, beside
+ *                                           as many clients with itself, of which the others, those
+ *                                           of reads, say no more once they have read
  *
  * Each client has one request outstanding; each reply is looked at. Printed are requests a second
  * of them all, and microseconds that half, 99 of 100 and 999 of 1,000 replies took at most; of
@@ -15,7 +20,10 @@
 #include "bench.h"
 #include <sys/epoll.h>
 
-enum { MOST = 128, CLIENTS = 1000, TILLS = 32, EVENTS = 256 };
+enum {
+    MOST = 128, CLIENTS = 1000, EVENTS = 256,
+    TILLS = 32, TILL_SESSIONS = 4 * TILLS, DISPENSERS = 63, DISPENSER_SESSIONS = 4 * DISPENSERS
+};
 
 struct client {
     int stream, came;
@@ -24,8 +32,8 @@ struct client {
 };
 
 static struct client all[CLIENTS];
-static unsigned char request[MOST], reply[MOST];
-static int size, due;
+static unsigned char request[MOST], reply[MOST], refusal[MOST];
+static int size, due, refused_due;
 
 static void receive(int s, unsigned char *got, int length)
 {
@@ -47,6 +55,19 @@ static void ask(int s, const char *sent, const char *wanted, int node, int point
     receive(s, got, n);
     if (memcmp(got, b, n) != 0)
         fail("a reply isn't the one that is wanted");
+}
+
+/* The subnet and node of a client. A node has four sessions at most: they are the tills', then
+ * those of each dispenser but the first one, and then those of nodes that no site has. */
+static void put_node(unsigned char *to, int number)
+{
+    int dispenser = number - TILL_SESSIONS, other = dispenser - DISPENSER_SESSIONS;
+    if (dispenser < 0)
+        to[0] = 2, to[1] = number % TILLS + 1;
+    else if (other < 0)
+        to[0] = 3, to[1] = dispenser % DISPENSERS + 2;
+    else
+        to[0] = 4, to[1] = other / 4 + 1;
 }
 
 static const char *SIGN_ON = "01 01 02 01 00 41 00 04 01 01 31 00";
@@ -80,18 +101,19 @@ static void prepare(const char *kind, int number, struct client *c)
     }
     due = parse_octets("02 01 01 01 00 20 00 1E 01 21 10 01 02 11 01 00 12 01 00 13 01 00"
                        " 72 04 00 00 00 00 73 08 00 00 00 00 00 00 00 00", reply);
+    refused_due = parse_octets("03 01 01 01 00 E0 00 05 01 21 01 01 33", refusal);
 }
 
-/* Are these requests of tills? */
-static int is_of_tills(const char *kind)
+/* Are these requests of nodes? */
+static int is_of_nodes(const char *kind)
 {
     return strcmp(kind, "reads") == 0 || strcmp(kind, "closes") == 0;
 }
 
 static void send_request(const char *kind, int number, struct client *c)
 {
-    if (is_of_tills(kind))
-        request[3] = number % TILLS + 1;
+    if (is_of_nodes(kind))
+        put_node(request + 2, number);
     c->came = 0;
     c->asked = read_clock();
     if (send(c->stream, request, size, MSG_NOSIGNAL) != size)
@@ -101,15 +123,18 @@ static void send_request(const char *kind, int number, struct client *c)
 /* Has the whole reply come? */
 static int takes_reply(const char *kind, int number, struct client *c)
 {
-    int more = recv(c->stream, c->got + c->came, due - c->came, 0);
+    int is_refused = is_of_nodes(kind) && number >= TILL_SESSIONS;
+    unsigned char *wanted = is_refused ? refusal : reply;
+    int length = is_refused ? refused_due : due;
+    int more = recv(c->stream, c->got + c->came, length - c->came, 0);
     if (more <= 0)
         fail("a connection ended");
     c->came += more;
-    if (c->came < due)
+    if (c->came < length)
         return 0;
-    if (is_of_tills(kind))
-        reply[1] = number % TILLS + 1;
-    if (memcmp(c->got, reply, due) != 0)
+    if (is_of_nodes(kind))
+        put_node(wanted, number);
+    if (memcmp(c->got, wanted, length) != 0)
         fail("a reply isn't the one that is wanted");
     return 1;
 }
@@ -118,6 +143,8 @@ static double make_requests(const char *kind, int clients, int requests, int *ti
 {
     struct epoll_event events[EVENTS];
     int poll = epoll_create1(0), sum = 0, left = 0;
+    if (requests < clients)
+        fail("fewer requests than clients");
     for (int i = 0; i < clients; i++) {
         struct epoll_event event = {.events = EPOLLIN, .data.u32 = i};
         prepare(kind, i, &all[i]);
@@ -143,13 +170,26 @@ static double make_requests(const char *kind, int clients, int requests, int *ti
     return requests / (read_clock() - start);
 }
 
+/* Other clients begin a session each, and say no more; number 0 is the till that is signed on. */
+static void begin_sessions(int others)
+{
+    struct client c;
+    for (int number = 1; number <= others; number++) {
+        prepare("reads", number, &c);
+        send_request("reads", number, &c);
+        while (!takes_reply("reads", number, &c))
+            ;
+    }
+}
+
 /* The till releases point after point, and ends it again; each dispenser listens. */
-static double make_notices(int pumps, int requests, int *times)
+static double make_notices(int pumps, int others, int requests, int *times)
 {
     static const char *done = "02 01 01 01 00 E2 00 08 01 21 01 01 00 03 01 00";
     unsigned char got[MOST], told[MOST];
     int till = connect_here(), n = parse_octets("03 01 01 01 00 80 00 04 01 21 3E 00", told);
     ask(till, SIGN_ON, SIGNED_ON, 1, 0);
+    begin_sessions(others);
     for (int p = 1; p <= pumps; p++) {
         all[p - 1].stream = connect_here();
         ask(till, "01 01 02 01 00 42 00 04 01 21 3C 00", done, 1, p);
@@ -183,15 +223,16 @@ int main(int count, char **words)
 {
     program = "bench/station";
     if (count != 5)
-        fail("reads|closes|echo|ping|sets|notices PORT CLIENTS REQUESTS");
+        fail("reads|closes|echo|ping|sets|notices|changes PORT CLIENTS REQUESTS");
     const char *kind = words[1];
     port = atoi(words[2]);
     int clients = atoi(words[3]), requests = atoi(words[4]);
     int *times = malloc(sizeof(int) * (requests + 1L));
-    if (!times || clients < 1 || clients > CLIENTS || requests < clients || requests < 1000)
-        fail("1 to 1,000 clients, 1,000 requests at least");
-    double rate = strcmp(kind, "notices") == 0 ? make_notices(clients, requests, times)
-                                               : make_requests(kind, clients, requests, times);
+    if (!times || clients < 1 || clients > CLIENTS || requests < 100)
+        fail("1 to 1,000 clients, 100 requests at least");
+    double rate = strcmp(kind, "notices") == 0   ? make_notices(clients, 0, requests, times)
+                  : strcmp(kind, "changes") == 0 ? make_notices(1, clients - 1, requests, times)
+                                                 : make_requests(kind, clients, requests, times);
     print_times(rate, times, requests);
     return 0;
 }

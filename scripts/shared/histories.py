@@ -9,8 +9,9 @@ import typing
 from shared.checks import Failed
 from shared.running import run
 from shared.station import (
-    ACKNOWLEDGE, DISPENSER, NOTICE, OPEN, PREPAY, READ, RELEASE, RESULT, SIGN_OFF, SITE_ADDRESS,
-    SUSPEND, TERMINATE, TEST_RELEASE, TILL, WRITE, decode,
+    ACKNOWLEDGE, CLEAR, CLOSE_SHIFT, DISPENSER, FLOW, HANG_UP, LIFT, LOCK, NOTICE, OPEN, PREPAY,
+    READ, RELEASE, RESULT, SIGN_OFF, SITE_ADDRESS, SUSPEND, TERMINATE, TEST_RELEASE, TILL, WRITE,
+    ask_site, command_point, command_sale, decode, report, sign_on,
 )  # fmt: skip
 
 FIRST_LINES = 3  # of a chapter
@@ -98,6 +99,44 @@ def write_chapters(site, *bodies):
         seal = seal_of(seal, covered)
         texts.append(covered if is_last else covered + seal_line(seal))
     return texts
+
+
+def write_sales_form(points):
+    """The rows of a sale of a litre at each of these points, with places for the meters' readings
+    before and after it, and for its number in its shift."""
+    before, after, number, rows = 0x1111111111111111, 0x2222222222222222, 7777, []
+    for point in points:
+        rows += [
+            command_point(1, 0, point, RELEASE),
+            report(point, 0, LIFT, before),
+            report(point, 0, FLOW, after),
+            report(point, 0, HANG_UP, after),
+            command_sale(1, 0, point, number, LOCK),
+            command_sale(1, 0, point, number, CLEAR),
+        ]
+    form = write_rows(*rows).replace(b"%x" % before, b"%(before)016x")
+    return form.replace(b"%x" % after, b"%(after)016x").replace(b"%d" % number, b"%(number)04d")
+
+
+def write_year(folder, site, days, rounds):
+    """Makes the folder of a history of this site file, whose points are 1 to 5. Its chapters are
+    days, of so many rounds of sales at each point, after which a shift is closed. Returns how many
+    rows it has. Chapters are made one after the other, since a program's peak of memory is never
+    below that of the script that starts it."""
+    folder, points, seal = write_history(folder, site), range(1, 6), NO_SEAL
+    form, closing = write_sales_form(points), write_rows(ask_site(1, CLOSE_SHIFT))
+    opening = write_rows(sign_on(1), *(command_point(1, 0, point, OPEN) for point in points))
+    for day in range(days):
+        parts = [first_lines(site, day + 1, seal), b"" if day else opening]
+        for number in range(1, rounds + 1):
+            litres = day * rounds + number
+            readings = {b"before": (litres - 1) * 1_000, b"after": litres * 1_000}
+            parts.append(form % {**readings, b"number": number})
+        covered = b"".join([*parts, closing])
+        seal = seal_of(seal, covered)
+        sealed = covered + seal_line(seal) if day + 1 < days else covered
+        chapter_path(folder, day + 1).write_bytes(sealed)
+    return opening.count(b"\n") + days * (rounds * form.count(b"\n") + 1)
 
 
 def without_marks(text):
