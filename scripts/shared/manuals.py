@@ -44,7 +44,8 @@ def read_help(program, name):
     parts = re.split(r"\n\n(?=\S)", shown.out.decode().strip())
     sections = {part.split(":", 1)[0]: part for part in parts[1:]}
     usage = sections.pop("Usage").split(":", 1)[1].strip()
-    lists = {what: read_list(sections.pop(what, "")) for what in ("Arguments", "Options", "Commands")}
+    kinds = ("Arguments", "Options", "Commands")
+    lists = {what: read_list(sections.pop(what, "")) for what in kinds}
     return Help(
         name,
         parts[0],
@@ -161,7 +162,9 @@ def write_zsh(helps):
     said = "\n".join(
         f"        {quote(name + ':' + purpose)}" for name, purpose in whole.commands.items()
     )
-    cases = "".join(f"        {one.name})\n{zsh_arguments(one)}            ;;\n" for one in commands)
+    cases = "".join(
+        f"        {one.name})\n{zsh_arguments(one)}            ;;\n" for one in commands
+    )
     return f"""#compdef {PROGRAM}
 # Completions of {PROGRAM} for zsh.
 _{PROGRAM}() {{

@@ -857,7 +857,8 @@ def mistaken_words():
     expect("the file", path.read_bytes(), b"bad\n")
     with start_station(write_chapter(FIRST, "first")) as day:
         ended = run(PROGRAM, "station", KNOWN_SITE, "--port", str(day.port), "--history", folder)
-        expect("before listening", (ended.status, ended.err), (1, advised("chapter 1 line 1") + "\n"))
+        said = advised("chapter 1 line 1") + "\n"
+        expect("before listening", (ended.status, ended.err), (1, said))
         path = write_chapter(DAY_TEXT)
         ended = run(PROGRAM, "station", KNOWN_SITE, "--port", str(day.port), "--history", folder)
         expect("listening", ended[:3], (1, b"", tell_deaf(day.port)))
