@@ -89,9 +89,9 @@ class ShiftTill(Till):
 
 
 def wait_for_chapter_end(folder, seconds):
-    """Waits so long, or until a chapter is about to end: it gets the seal behind a CloseShift as its
-    last line, or the next one's copy. Returns whether one is. What an earlier run has left there
-    doesn't count."""
+    """Waits so long, or until a chapter is about to end: it gets the seal behind a CloseShift as
+    its last line, or the next one's copy. Returns whether one is. What an earlier run has left
+    there doesn't count."""
     end = time.monotonic() + seconds
     size, had_copy = list_chapters(folder)[-1].stat().st_size, find_copies(folder)
     while time.monotonic() < end:

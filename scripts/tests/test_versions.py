@@ -25,8 +25,8 @@ def copy(version):
 
 
 def read_requests():
-    """The requests of the day that are stored: all but reads, without their tokens. At the day's end
-    each till that is still signed on is signed off."""
+    """The requests of the day that are stored: all but reads, without their tokens. At the day's
+    end each till that is still signed on is signed off."""
     lines = DAY.read_text().splitlines()
     asked = (line.partition(",")[0] for line in lines if line and not line.startswith("#"))
     kept = [line for line in asked if not line.split()[1].startswith("Read")]
