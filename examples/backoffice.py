@@ -56,4 +56,4 @@ def main(source, path, forecourt="forecourt"):
         time.sleep(1)
 
 
-main(*sys.argv[1:])
+main(*sys.argv[1:]) if len(sys.argv) in (3, 4) else sys.exit(__doc__)

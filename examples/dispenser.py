@@ -3,11 +3,14 @@
              examples/dispenser.py --door PATH POINT MILLILITRES [READING]
 
 Listens at a site that `forecourt station` serves, at this port of 127.0.0.1 or at this door. Once
-its fuelling point is released, nozzle 1 is lifted, whose meter stands at the reading, or where the
-site says; it flows a litre at a time until the millilitres are out or the preset is reached, waits
-while it is suspended, stops where a till ends it, and hangs up. If the station is started again
-meanwhile, it connects again and goes on with what the site says of its point. What it is told is
-printed. It can be run as often as its point is released. docs/PROTOCOL.md has every identifier."""
+its fuelling point is released, nozzle 1 is lifted; it flows a litre at a time until the millilitres
+are out or the preset is reached, waits while it is suspended, stops where a till ends it, and hangs
+up. If the station is started again meanwhile, it connects again and goes on with what the site says
+of its point. What it is told is printed. It can be run as often as its point is released.
+
+Give READING, what the meter of nozzle 1 reads in millilitres. Without it the first Lift says 0. If
+the site expects another reading, it refuses that Lift (17 MeterGap), which makes a row. The next
+Lift says what the site expects. PROTOCOL.md has every identifier."""
 import sys
 import time
 

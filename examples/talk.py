@@ -1,5 +1,5 @@
 """What a till and a dispenser of these examples have in common: a connection to the site, which
-comes again where it ended, and messages. docs/PROTOCOL.md has every identifier."""
+comes again where it ended, and messages. PROTOCOL.md has every identifier."""
 
 import socket
 import sys

@@ -7,7 +7,7 @@ closed, releases it, waits until its fuelling is over, and locks, clears and rea
 FEED, the port of the station's feed or the socket of its door, it hears of the sale there; without
 it, it looks at the point, and tries sale numbers. If the station is started again meanwhile, it
 connects and signs on again, and goes on. It can be run as often as there is something to sell.
-docs/PROTOCOL.md has every identifier."""
+PROTOCOL.md has every identifier."""
 import json
 import sys
 import time

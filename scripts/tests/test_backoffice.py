@@ -58,6 +58,14 @@ def read_sales(store):
 
 
 @test
+def its_usage():
+    """Words that it doesn't know: it says how it is used."""
+    for words in ([], ["4003"], ["4003", "SALES.db", "forecourt", "more"]):
+        end = run(sys.executable, BACK_OFFICE, *words)
+        expect(f"{words}", (end.status, end.err.startswith("A back office: ")), (1, True))
+
+
+@test
 def each_sale_once(seed):
     """The back office, and what it reads from, are killed again and again while a history grows: in
     the end each sale is kept as the history has it, and its place is the next row."""

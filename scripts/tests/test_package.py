@@ -5,6 +5,7 @@ where they are installed."""
 
 import contextlib
 import functools
+import gzip
 import hashlib
 import os
 import re
@@ -25,7 +26,9 @@ HERE = make_folder()
 LEAST_SAFE = 2.5  # of systemd-analyze: 0 is the safest
 KEPT_BY_DPKG = re.compile(r"var/lib/dpkg/|etc/(passwd|group|shadow|gshadow|\.pwd\.lock)")
 STATION = "station --history history --doors doors --port 0 --page 0".split()
-SITE = "usr/share/doc/forecourt/examples/five_points.toml"
+DOCUMENTS = "usr/share/doc/forecourt"
+SITE = f"{DOCUMENTS}/examples/five_points.toml"
+LINK = re.compile(r"\]\(([^()\s#]+)(?:#[^()\s]*)?\)")
 
 
 def need(program):
@@ -69,6 +72,8 @@ def ask_dpkg(root, *words):
         raise Skipped("only root installs a package")
     end = run("dpkg", f"--root={root}", "--force-script-chrootless", "--force-depends", *words)
     expect(f"dpkg {words[0]}", end.status, 0)
+    expect("folders that aren't removed", "not empty" in end.err, False)
+    return end
 
 
 def files_of(root):
@@ -90,9 +95,11 @@ def wanted_files():
         "usr/share/bash-completion/completions/forecourt",
         "usr/share/zsh/vendor-completions/_forecourt",
         "usr/share/fish/vendor_completions.d/forecourt.fish",
-        "usr/share/doc/forecourt/copyright",
         "usr/share/forecourt/build",
-        "usr/share/doc/forecourt/examples/till.py",
+        f"{DOCUMENTS}/copyright",
+        f"{DOCUMENTS}/README.Debian",
+        f"{DOCUMENTS}/OPERATING.md.gz",
+        f"{DOCUMENTS}/examples/till.py",
         SITE,
         *(f"usr/share/man/man1/{page}.1.gz" for page in pages),
     }
@@ -109,7 +116,8 @@ def the_same_sources_make_the_same_package():
 @test
 def it_is_installed_and_removed():
     """Installed into a root of its own, each file is in its place, the user of stations is there,
-    and the program runs. Removed, nothing is left but a history."""
+    and the program runs. Removed, nothing is left but a history, not even what Python left beside
+    the examples, and a line says so."""
     root = make_root("root")
     ask_dpkg(root, "-i", the_package())
     expect("missing files", wanted_files() - set(files_of(root)), set())
@@ -120,8 +128,14 @@ def it_is_installed_and_removed():
     expect("check", (checked.status, checked.out), (0, b"ok points 5 nozzles 10 products 2\n"))
     (stations / "north/history").mkdir(parents=True)
     (stations / "north/history/chapter-000001").write_text("a history\n")
-    ask_dpkg(root, "-P", "forecourt")
+    compiled = root / DOCUMENTS / "examples/__pycache__/talk.pyc"
+    compiled.parent.mkdir()
+    compiled.touch()
+    purged = ask_dpkg(root, "-P", "forecourt").out.decode()
     expect("left", files_of(root), ["var/lib/forecourt/north/history/chapter-000001"])
+    expect("the examples' folder", compiled.parent.parent.exists(), False)
+    told = [line for line in purged.splitlines() if "/var/lib/forecourt" in line]
+    expect("what stays", len(told), 1)
 
 
 @test
@@ -132,6 +146,19 @@ def nothing_is_left_without_a_history():
     ask_dpkg(root, "-P", "forecourt")
     expect("left", files_of(root), [])
     expect("folder", (root / "var/lib/forecourt").exists(), False)
+
+
+@test
+def links_of_the_documents():
+    """Each link of a document leads to a file of the package."""
+    folder = unpacked() / DOCUMENTS
+    texts = {path: gzip.decompress(path.read_bytes()).decode() for path in folder.glob("*.md.gz")}
+    texts[folder / "examples/README.md"] = (folder / "examples/README.md").read_text()
+    links = [(path, link) for path in texts for link in LINK.findall(texts[path])]
+    own = [(path, link) for path, link in links if not link.startswith("http")]
+    expect("there are many", len(own) > 50, True)
+    lost = [f"{path.name}: {link}" for path, link in own if not (path.parent / link).exists()]
+    expect("those that lead nowhere", lost, [])
 
 
 @test

@@ -684,6 +684,18 @@ def each_event_is_drawn():
 
 
 @test_each
+def words_of_the_documents():
+    """PROGRAM has the words of each event, and each of its examples is spelled and explained."""
+    examples = [cells[2].strip("`") for cells in read_tables("| Event | Its words | Example |")]
+    chance = start_chance(0, "each event")
+    drawn = {random_words.choose_event(chance).split()[1] for _ in range(10_000)}
+    expect("events with an example", {line.split()[1] for line in examples}, drawn)
+    spelled = forecourt("spell", given="".join(f"{line}, token 0\n" for line in examples))
+    told = forecourt("explain", given=spelled.out).out.decode().replace(", token 0", "")
+    expect("the examples", told.splitlines(), examples)
+
+
+@test_each
 def sales_of_a_day():
     """The sales of a day and its draws add up to its report, and are the same as JSON."""
     expect("the sales of the paying day", read_table("paying_day"), f"{','.join(TITLES)}\n{PAID}")
