@@ -50,7 +50,7 @@ fn ask<'a>(alloc: Global) -> Result<Command<'a>, AllocError>
 {
     let about = "Asks a station that runs for the requests that standard input says in words, and \
                  prints its replies";
-    let example = "Example: echo 't1 SignOn' | forecourt ask --port 4000\n";
+    let example = "Example: echo 't1 SignOn' | forecourt ask --port 4001\n";
     let port = "The port of 127.0.0.1 on which the station listens";
     let door = "The door of the till or dispenser that asks: its socket, or its folder";
     let strict = "Ends with the first refusal, with status 1";
