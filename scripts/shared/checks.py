@@ -11,7 +11,7 @@ NO_FILE = "No such file or directory"  # the system's words
 ADVICE = {
     r"chapter \d+ is missing": "put its file back from a backup",
     r"chapter \d+ line \d+":
-        "it is torn, or it or a line above was edited: see 'A chapter with a bad line' in OPERATING.md",
+        "torn, or edited here or above: see 'A chapter with a bad line' in OPERATING.md",
     r"chapter \d+ doesn't go on from chapter \d+":
         "put back the right file from a backup, or take out what doesn't belong there",
     r"history of another site":

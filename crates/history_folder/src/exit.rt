@@ -32,7 +32,7 @@ pub fn exit_history(rt: &impl Eprint, fault: HistoryFault) -> ExitCode
         HistoryFault::Line(_, _) => exit_advised(
             rt,
             fault,
-            "it is torn, or it or a line above was edited: see 'A chapter with a bad line' in OPERATING.md",
+            "torn, or edited here or above: see 'A chapter with a bad line' in OPERATING.md",
         ),
         HistoryFault::NotAfter(_, _) => exit_advised(
             rt,
