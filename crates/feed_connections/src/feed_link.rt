@@ -7,8 +7,8 @@ ghost use Rattle.feed_connections.specs.Turns.{Turns};
 use crate::calls::{hear_once, send_once};
 use crate::feed_stream::FeedStream;
 use crate::progress::Progress;
-use crate::sizes::{ALIVE_SECONDS, ASKING_SECONDS, HEARD_OCTETS, STEPS_A_TURN, TAKING_SECONDS};
-use connection_calls::Call;
+use crate::sizes::{ALIVE_SECONDS, ASKING_SECONDS, HEARD_OCTETS, TAKING_SECONDS};
+use connection_calls::{CALLS_A_TURN, Call};
 use mio::Registry;
 use row_feed::{ChapterStarts, Feed, Stage};
 use row_json::LastRows;
@@ -107,7 +107,7 @@ impl<S: Read + Write + Drop> FeedLink<S> {
     ) -> Result<Progress, NoMemory>
         ensures { OnOk result (Turns rows.now self.old self.new) }
     {
-        for _ in 0..STEPS_A_TURN {
+        for _ in 0..CALLS_A_TURN {
             match self.go_on(rows, starts, now)? {
                 Progress::GoesOn => {}
                 end => return Ok(end),

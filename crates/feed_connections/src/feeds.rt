@@ -6,7 +6,7 @@ ghost use Rattle.feed_connections.specs.Served.{AreServed, HaveCome};
 use crate::feed_link::FeedLink;
 use crate::feed_place::{FeedPlace, note_rows, pass_time, take_turn};
 use crate::feed_stream::{FeedListener, FeedStream};
-use crate::sizes::{FEED_MILLISECONDS, FEED_SHARE, FEED_SWEEP_SECONDS, FEEDS, REST_MILLISECONDS};
+use crate::sizes::{FEED_MILLISECONDS, FEED_SWEEP_SECONDS, FEEDS};
 use connection_calls::{ACCEPTS_A_TURN, Caller};
 use mio::Registry;
 use mio::net::{TcpListener, UnixListener};
@@ -37,8 +37,6 @@ pub struct Feeds {
     told: u64,
     /// Before then they are told of no others.
     waits_until: Instant,
-    /// Before then no link has a turn.
-    rests_until: Instant,
     /// No further round comes: rows don't wait for others.
     is_last: bool,
     /// When it was last looked who is late, and who is to hear that the feed is alive.
@@ -60,7 +58,6 @@ impl Feeds {
             is_due: false,
             told: 0,
             waits_until: now,
-            rests_until: now,
             is_last: false,
             swept_at: now,
         })
@@ -97,36 +94,12 @@ impl Feeds {
         self.places.iter().filter(|place| place.is_some()).count()
     }
 
-    /// How long it is until a link has its turn: if one is due, until the rest is over, and if
-    /// there are new rows for a peer, until they have waited long enough for others too.
+    /// How long new rows wait still until they are fed, if there are some, and a peer.
     pub fn time_left(&self, rows: &LastRows, now: Instant) -> Option<Duration> {
-        let rest = self.rests_until.duration_since(now);
-        if self.is_due {
-            return Some(rest);
-        }
         if self.told == rows.next() || self.places.iter().all(|place| place.is_none()) {
             return None;
         }
-        let wait = self.waits_until.duration_since(now);
-        Some(if wait < rest { rest } else { wait })
-    }
-
-    /// In the round of this time links had turns, which took so long: now they rest, so that tills
-    /// have theirs.
-    pub fn rest(&mut self, took: Duration, now: Instant)
-        ensures { self.new.places ≡ self.old.places }
-    {
-        let mut rest = took.saturating_mul(FEED_SHARE);
-        let most = Duration::from_millis(REST_MILLISECONDS);
-        if rest > most {
-            rest = most;
-        }
-        self.rests_until = now.checked_add(rest).unwrap_or(now);
-    }
-
-    /// Do the links rest? In the last round they don't.
-    fn is_resting(&self, now: Instant) -> bool {
-        now < self.rests_until && !self.is_last
+        Some(self.waits_until.duration_since(now))
     }
 
     /// No further round comes: the next time rows are fed at once.
@@ -168,9 +141,9 @@ impl Feeds {
     }
 
     /// Each link that is ready, or waits for rows where there are new ones, has its turn with these
-    /// last rows, unless the links rest: for new ones at most every 50 milliseconds, whatever their
-    /// number. Then those that wait are accepted. Once a second whoever is late is closed, and
-    /// whoever has waited for rows for ten seconds is told which is next.
+    /// last rows: for new ones at most every 50 milliseconds, whatever their number. Then those
+    /// that wait are accepted. Once a second whoever is late is closed, and whoever has waited for
+    /// rows for ten seconds is told which is next.
     #[tactic(auto, using(crate::proofs::Serving::serving))]
     pub fn serve(
         &mut self,
@@ -178,13 +151,14 @@ impl Feeds {
         rows: &LastRows,
         starts: &ChapterStarts,
         now: Instant,
-    ) -> bool
+    )
         ensures { AreServed rows.now self.old.places.items self.new.places.items }
     {
         self.sweep_if_due(rows, now);
         self.note_rows(rows, now);
+        self.serve_due(registry, rows, starts, now);
         self.accept_waiting(registry, now);
-        self.serve_due(registry, rows, starts, now)
+        self.serve_due(registry, rows, starts, now);
     }
 
     /// If there are new rows, and they have waited long enough for others, whoever waits for them
@@ -218,7 +192,7 @@ impl Feeds {
         }
     }
 
-    /// Each link that is due has its turn, unless they rest. Says whether one had it.
+    /// Each link that is due has its turn.
     #[tactic(auto, using(crate::proofs::Serving::serving))]
     fn serve_due(
         &mut self,
@@ -226,17 +200,16 @@ impl Feeds {
         rows: &LastRows,
         starts: &ChapterStarts,
         now: Instant,
-    ) -> bool
+    )
         ensures { AreServed rows.now self.old.places.items self.new.places.items }
     {
-        if !self.is_due || self.is_resting(now) {
-            return false;
+        if !self.is_due {
+            return;
         }
         self.is_due = false;
         for number in 0..self.places.len() {
             self.serve_at(registry, rows, starts, number, now);
         }
-        true
     }
 
     /// Whoever is at this place has a turn, if it is due.

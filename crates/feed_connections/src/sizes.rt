@@ -21,13 +21,3 @@ pub const FEED_MILLISECONDS: u64 = 50;
 
 /// So often it is looked who is late, and who is to hear that the feed is alive.
 pub const FEED_SWEEP_SECONDS: u64 = 1;
-
-/// A link takes so many steps in a turn, at most: each makes lines, sends once or hears once.
-pub const STEPS_A_TURN: usize = 4;
-
-/// Feeds take one part of so many of the station's time, at most, and tills have the rest: from a
-/// round in which links had turns on, none has one until so many times as long has passed.
-pub const FEED_SHARE: u32 = 32;
-
-/// .. but the links rest no longer than so many milliseconds.
-pub const REST_MILLISECONDS: u64 = 250;
