@@ -7,8 +7,8 @@ ghost use Rattle.feed_connections.specs.Turns.{Turns};
 use crate::calls::{hear_once, send_once};
 use crate::feed_stream::FeedStream;
 use crate::progress::Progress;
-use crate::sizes::{ALIVE_SECONDS, ASKING_SECONDS, HEARD_OCTETS, STEPS_A_TURN, TAKING_SECONDS};
-use connection_calls::Call;
+use crate::sizes::{ALIVE_SECONDS, ASKING_SECONDS, HEARD_OCTETS, TAKING_SECONDS};
+use connection_calls::{CALLS_A_TURN, Call};
 use mio::Registry;
 use row_feed::{ChapterStarts, Feed, Stage};
 use row_json::LastRows;
@@ -18,7 +18,8 @@ use std::io::{Read, Write};
 use std::marker::Model;
 use std::time::Instant;
 
-/// The connection of a peer that is fed rows. Contracts see its feed. Close it after `NoMemory`.
+/// The connection of a peer that is fed rows. Contracts see its feed. After `NoMemory` it is to be
+/// closed.
 #[derive(Drop)]
 pub struct FeedLink<S: Read + Write + Drop> {
     stream: S,
@@ -40,7 +41,7 @@ impl<S: Read + Write + Drop> Model for FeedLink<S> {
 }
 
 impl<S: Read + Write + Drop> FeedLink<S> {
-    /// Returns the connection of a peer that has just come. It takes no memory.
+    /// The connection of a peer that has just come. It takes no memory.
     pub fn new(alloc: Global, stream: S, now: Instant) -> FeedLink<S>
         ensures { result ≡ new_feed }
     {
@@ -53,14 +54,14 @@ impl<S: Read + Write + Drop> FeedLink<S> {
         }
     }
 
-    /// Notes that the peer may have sent something.
+    /// The peer may have sent something.
     pub fn note_ready(&mut self)
         ensures { self.new ≡ self.old }
     {
         self.is_quiet = false;
     }
 
-    /// Is the peer fed, and has it taken all that was made for it? Then it gets the next row.
+    /// Is it fed, and has it taken all that was made for it? Then the next row is for it.
     pub fn waits_for_rows(&self) -> bool {
         match self.feed.stage() {
             Stage::Follows(_) => self.feed.pending().is_empty(),
@@ -68,8 +69,8 @@ impl<S: Read + Write + Drop> FeedLink<S> {
         }
     }
 
-    /// Has the peer taken too long: to send its first line, to take pending output, or to hang up
-    /// after its feed ended?
+    /// Was its peer waited for too long: for its first line, while something is pending, or since
+    /// it is fed nothing more?
     pub fn is_late(&self, now: Instant) -> bool {
         let waited = now.duration_since(self.taken_at).as_secs();
         match self.feed.stage() {
@@ -79,8 +80,8 @@ impl<S: Read + Write + Drop> FeedLink<S> {
         }
     }
 
-    /// Tells a peer for which nothing was made for ten seconds which row is next, as soon as the
-    /// peer can take that.
+    /// A peer for which nothing was made for ten seconds is told which row is next, as soon as it
+    /// can take that.
     #[tactic(auto, using(crate::proofs::Turning::turning))]
     pub fn keep_alive(&mut self, rows: &LastRows, now: Instant) -> Result<(), NoMemory>
         ensures { OnOk result (Turns rows.now self.old self.new) }
@@ -96,8 +97,8 @@ impl<S: Read + Write + Drop> FeedLink<S> {
         self.feed.say_alive()
     }
 
-    /// Takes a turn: hears what the peer sends, and sends what is made for it, from these last rows
-    /// and beginnings of chapters.
+    /// Has its turn: what the peer sends is heard, and what is made for it is sent, of these last
+    /// rows, where chapters begin so.
     pub fn take_turn(
         &mut self,
         rows: &LastRows,
@@ -106,7 +107,7 @@ impl<S: Read + Write + Drop> FeedLink<S> {
     ) -> Result<Progress, NoMemory>
         ensures { OnOk result (Turns rows.now self.old self.new) }
     {
-        for _ in 0..STEPS_A_TURN {
+        for _ in 0..CALLS_A_TURN {
             match self.go_on(rows, starts, now)? {
                 Progress::GoesOn => {}
                 end => return Ok(end),

@@ -6,7 +6,7 @@ ghost use Rattle.feed_connections.specs.Served.{AreServed, HaveCome};
 use crate::feed_link::FeedLink;
 use crate::feed_place::{FeedPlace, note_rows, pass_time, take_turn};
 use crate::feed_stream::{FeedListener, FeedStream};
-use crate::sizes::{FEED_MILLISECONDS, FEED_SHARE, FEED_SWEEP_SECONDS, FEEDS, REST_MILLISECONDS};
+use crate::sizes::{FEED_MILLISECONDS, FEED_SWEEP_SECONDS, FEEDS};
 use connection_calls::{ACCEPTS_A_TURN, Caller};
 use mio::Registry;
 use mio::net::{TcpListener, UnixListener};
@@ -37,8 +37,6 @@ pub struct Feeds {
     told: u64,
     /// Before then they are told of no others.
     waits_until: Instant,
-    /// Before then no link has a turn.
-    rests_until: Instant,
     /// No further round comes: rows don't wait for others.
     is_last: bool,
     /// When it was last looked who is late, and who is to hear that the feed is alive.
@@ -46,7 +44,7 @@ pub struct Feeds {
 }
 
 impl Feeds {
-    /// Returns a feed without links and listeners. The keys of its links begin with this one.
+    /// No links yet, and nowhere to come. The links' keys are those from this one on.
     pub fn new(alloc: Global, first_key: usize, now: Instant) -> Result<Feeds, NoMemory> {
         let mut places = Vec::with_capacity(alloc, FEEDS)?;
         for _ in 0..FEEDS {
@@ -60,7 +58,6 @@ impl Feeds {
             is_due: false,
             told: 0,
             waits_until: now,
-            rests_until: now,
             is_last: false,
             swept_at: now,
         })
@@ -69,12 +66,12 @@ impl Feeds {
     /// Closes the listeners, and each link that is left.
     pub fn close(self) {}
 
-    /// Accepts peers over TCP too.
+    /// Peers come over TCP, too.
     pub fn listen(&mut self, listener: TcpListener) -> Result<(), NoMemory> {
         self.add_entrance(FeedListener::Tcp(listener))
     }
 
-    /// Accepts peers at the feed's door too.
+    /// Peers come at the feed's door, too.
     pub fn listen_at_door(&mut self, listener: UnixListener) -> Result<(), NoMemory> {
         self.add_entrance(FeedListener::Unix(listener))
     }
@@ -87,49 +84,25 @@ impl Feeds {
         Ok(())
     }
 
-    /// Is there a peer that may be late, or one that waits to be accepted?
+    /// Is there a peer, for which time passes, or one that waits to be accepted?
     pub fn is_busy(&self) -> bool {
         self.have_callers() || self.places.iter().any(|place| place.is_some())
     }
 
-    /// Returns the number of peers.
+    /// How many peers there are.
     pub fn count(&self) -> usize {
         self.places.iter().filter(|place| place.is_some()).count()
     }
 
-    /// Returns how long it is until a link has its turn: if one is due, until the rest is over, and
-    /// if there are new rows and a peer, until the rows have waited long enough for others too.
+    /// How long new rows wait still until they are fed, if there are some, and a peer.
     pub fn time_left(&self, rows: &LastRows, now: Instant) -> Option<Duration> {
-        let rest = self.rests_until.duration_since(now);
-        if self.is_due {
-            return Some(rest);
-        }
         if self.told == rows.next() || self.places.iter().all(|place| place.is_none()) {
             return None;
         }
-        let wait = self.waits_until.duration_since(now);
-        Some(if wait < rest { rest } else { wait })
+        Some(self.waits_until.duration_since(now))
     }
 
-    /// Lets the links rest, because their turns in the round of this time took so long: tills get
-    /// the time.
-    pub fn rest(&mut self, took: Duration, now: Instant)
-        ensures { self.new.places ≡ self.old.places }
-    {
-        let mut rest = took.saturating_mul(FEED_SHARE);
-        let most = Duration::from_millis(REST_MILLISECONDS);
-        if rest > most {
-            rest = most;
-        }
-        self.rests_until = now.checked_add(rest).unwrap_or(now);
-    }
-
-    /// Do the links rest? In the last round they don't.
-    fn is_resting(&self, now: Instant) -> bool {
-        now < self.rests_until && !self.is_last
-    }
-
-    /// Notes that no further round comes: the next call of `serve` feeds rows at once.
+    /// No further round comes: the next time rows are fed at once.
     pub fn note_last_round(&mut self) {
         self.is_last = true;
     }
@@ -139,14 +112,14 @@ impl Feeds {
         self.entrances.iter().any(|entrance| entrance.has_callers)
     }
 
-    /// Notes that connections may wait to be accepted.
+    /// Connections may wait to be accepted.
     pub fn note_callers(&mut self) {
         for entrance in &mut self.entrances {
             entrance.has_callers = true;
         }
     }
 
-    /// Notes that the link of this key, if it is one, is ready.
+    /// The link of this key, if it is one, is ready.
     pub fn make_due(&mut self, key: usize) {
         let Some(number) = key.checked_sub(self.first_key) else {
             return;
@@ -157,7 +130,7 @@ impl Feeds {
         }
     }
 
-    /// Drops the peer of this key, if there is one, because it takes no more.
+    /// The peer of this key, if it is one, takes no more: it leaves.
     pub fn leave(&mut self, key: usize) {
         let Some(number) = key.checked_sub(self.first_key) else {
             return;
@@ -167,11 +140,10 @@ impl Feeds {
         }
     }
 
-    /// Gives a turn with these last rows to each link that is ready, or that waits for rows when
-    /// there are new ones: for new rows at most every 50 milliseconds, whatever their number, and to
-    /// none while the links rest. Before that it accepts the connections that wait. Once a second it
-    /// closes peers that are late, and tells each peer that has waited ten seconds for a row which
-    /// row is next. Returns whether a link had a turn.
+    /// Each link that is ready, or waits for rows where there are new ones, has its turn with these
+    /// last rows: for new ones at most every 50 milliseconds, whatever their number. Then those
+    /// that wait are accepted. Once a second whoever is late is closed, and whoever has waited for
+    /// rows for ten seconds is told which is next.
     #[tactic(auto, using(crate::proofs::Serving::serving))]
     pub fn serve(
         &mut self,
@@ -179,13 +151,14 @@ impl Feeds {
         rows: &LastRows,
         starts: &ChapterStarts,
         now: Instant,
-    ) -> bool
+    )
         ensures { AreServed rows.now self.old.places.items self.new.places.items }
     {
         self.sweep_if_due(rows, now);
         self.note_rows(rows, now);
+        self.serve_due(registry, rows, starts, now);
         self.accept_waiting(registry, now);
-        self.serve_due(registry, rows, starts, now)
+        self.serve_due(registry, rows, starts, now);
     }
 
     /// If there are new rows, and they have waited long enough for others, whoever waits for them
@@ -219,7 +192,7 @@ impl Feeds {
         }
     }
 
-    /// Each link that is due has its turn, unless they rest. Says whether one had it.
+    /// Each link that is due has its turn.
     #[tactic(auto, using(crate::proofs::Serving::serving))]
     fn serve_due(
         &mut self,
@@ -227,17 +200,16 @@ impl Feeds {
         rows: &LastRows,
         starts: &ChapterStarts,
         now: Instant,
-    ) -> bool
+    )
         ensures { AreServed rows.now self.old.places.items self.new.places.items }
     {
-        if !self.is_due || self.is_resting(now) {
-            return false;
+        if !self.is_due {
+            return;
         }
         self.is_due = false;
         for number in 0..self.places.len() {
             self.serve_at(registry, rows, starts, number, now);
         }
-        true
     }
 
     /// Whoever is at this place has a turn, if it is due.

@@ -171,8 +171,8 @@ fn run_opened<
     exit_day(rt, end)
 }
 
-/// Says that the folder of the doors, if there is one, has none. Each node may speak over TCP then;
-/// without a port nobody could connect, and the program ends.
+/// Says that the folder of the doors, if there is one, has none of a till or dispenser, and who may
+/// connect then. If nobody could, the program ends.
 fn check_doors(
     rt: &impl Eprint,
     options: &StationOptions<'_>,
@@ -184,12 +184,16 @@ fn check_doors(
     if doors.len() > 0 {
         return Ok(());
     }
-    if options.port.is_none() {
-        let advice = "nobody could connect: make a folder for each node in it, or give --port";
-        return Err(exit_with(eprintln!(rt; "no doors in {folder}\n{advice}"), FAULT));
+    if options.port.is_some() {
+        let _ = eprintln!(rt; "no doors in {folder}: each node may connect over TCP");
+        return Ok(());
     }
-    let _ = eprintln!(rt; "no doors in {folder}: each node may connect over TCP");
-    Ok(())
+    if doors.has_feed() {
+        let _ = eprintln!(rt; "no doors in {folder}: no till and no dispenser can connect");
+        return Ok(());
+    }
+    let advice = "nobody could connect: make a folder for each node in it, or give --port";
+    Err(exit_with(eprintln!(rt; "no doors in {folder}\n{advice}"), FAULT))
 }
 
 /// The house till of this number, if there is to be one; the number, where it is no manager's.

@@ -1,4 +1,5 @@
-//! The connections of the page and of the feed, which are served after the round.
+//! Those who look on: the connections of the page and of the feed have their turns behind the
+//! round.
 
 ghost use Rattle.std.specs.Prelude.{◌≡◌, IfSome, true};
 ghost use Rattle.feed_connections.specs.Served.{AreServed};
@@ -14,7 +15,7 @@ use mio::Token;
 use mio::event::Event;
 use page_connections::Pages;
 use peer_connections::{Connections, PeerStream};
-use std::time::{Clock, Duration, Instant};
+use std::time::{Clock, Duration};
 
 impl StationServer {
     /// The connections of the page that are ready have their turn. Each row is stored: so it tells
@@ -56,10 +57,9 @@ impl StationServer {
     }
 
     /// The connections of the feed that are ready, or wait for rows that are new, have their turn.
-    /// Each row is stored: they are sent those that were read then, and no others. The longer that
-    /// takes, the longer they rest. Where memory was wanting for the rows there is no feed any
-    /// more, which is said.
-    pub(crate) fn serve_feed<R: Clock + Eprint, D: Disk>(
+    /// Each row is stored: they are sent those that were read then, and no others. Where memory was
+    /// wanting for these there is no feed any more, which is said.
+    pub(crate) fn serve_feed<R: Eprint, D: Disk>(
         &mut self,
         rt: &R,
         connections: &Connections<D, PeerStream>,
@@ -74,14 +74,7 @@ impl StationServer {
         };
         let now = self.rounds.waited();
         match connections.fed_rows() {
-            Some(fed) => {
-                let began = Instant::now(rt);
-                if feeds.serve(self.poll.registry(), fed.rows(), fed.starts(), now) {
-                    if let (Ok(began), Ok(ended)) = (began, Instant::now(rt)) {
-                        feeds.rest(ended.duration_since(began), now);
-                    }
-                }
-            }
+            Some(fed) => feeds.serve(self.poll.registry(), fed.rows(), fed.starts(), now),
             None => {
                 self.feeds = None;
                 let _ = eprintln!(rt; "the feed has ended: out of memory");

@@ -5,4 +5,5 @@ pub returns : goal.returns
 returns c =
     all_then _ _ _ _ c.sweep_if_due.ensures
     (all_then _ _ _ _ c.note_rows.ensures
-    (all_then _ _ _ _ (all_come _ _ _ c.accept_waiting.ensures) c.serve_due.ensures))
+    (all_then _ _ _ _ c.serve_due.ensures
+    (all_then _ _ _ _ (all_come _ _ _ c.accept_waiting.ensures) c.serve_due-2.ensures)))
