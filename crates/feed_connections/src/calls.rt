@@ -1,5 +1,5 @@
-//! One call of a connection: octets that a peer sent are heard, octets that were made for it are
-//! sent.
+//! One call of a connection: it hears octets that a peer sent, or sends octets that were made for
+//! it.
 
 ghost use Rattle.std.specs.Prelude.{◌<◌, IfOk, length};
 ghost use Rattle.feed_connections.specs.FeedCalls.{HearsFeed, SendsFeed};

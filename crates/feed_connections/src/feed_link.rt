@@ -18,8 +18,7 @@ use std::io::{Read, Write};
 use std::marker::Model;
 use std::time::Instant;
 
-/// The connection of a peer that is fed rows. Contracts see its feed. After `NoMemory` it is to be
-/// closed.
+/// The connection of a peer that is fed rows. Contracts see its feed. Close it after `NoMemory`.
 #[derive(Drop)]
 pub struct FeedLink<S: Read + Write + Drop> {
     stream: S,
@@ -41,7 +40,7 @@ impl<S: Read + Write + Drop> Model for FeedLink<S> {
 }
 
 impl<S: Read + Write + Drop> FeedLink<S> {
-    /// The connection of a peer that has just come. It takes no memory.
+    /// Returns the connection of a peer that has just come. It takes no memory.
     pub fn new(alloc: Global, stream: S, now: Instant) -> FeedLink<S>
         ensures { result ≡ new_feed }
     {
@@ -54,14 +53,14 @@ impl<S: Read + Write + Drop> FeedLink<S> {
         }
     }
 
-    /// The peer may have sent something.
+    /// Notes that the peer may have sent something.
     pub fn note_ready(&mut self)
         ensures { self.new ≡ self.old }
     {
         self.is_quiet = false;
     }
 
-    /// Is it fed, and has it taken all that was made for it? Then the next row is for it.
+    /// Is the peer fed, and has it taken all that was made for it? Then it gets the next row.
     pub fn waits_for_rows(&self) -> bool {
         match self.feed.stage() {
             Stage::Follows(_) => self.feed.pending().is_empty(),
@@ -69,8 +68,8 @@ impl<S: Read + Write + Drop> FeedLink<S> {
         }
     }
 
-    /// Was its peer waited for too long: for its first line, while something is pending, or since
-    /// it is fed nothing more?
+    /// Has the peer taken too long: to send its first line, to take pending output, or to hang up
+    /// after its feed ended?
     pub fn is_late(&self, now: Instant) -> bool {
         let waited = now.duration_since(self.taken_at).as_secs();
         match self.feed.stage() {
@@ -80,8 +79,8 @@ impl<S: Read + Write + Drop> FeedLink<S> {
         }
     }
 
-    /// A peer for which nothing was made for ten seconds is told which row is next, as soon as it
-    /// can take that.
+    /// Tells a peer for which nothing was made for ten seconds which row is next, as soon as the
+    /// peer can take that.
     #[tactic(auto, using(crate::proofs::Turning::turning))]
     pub fn keep_alive(&mut self, rows: &LastRows, now: Instant) -> Result<(), NoMemory>
         ensures { OnOk result (Turns rows.now self.old self.new) }
@@ -97,8 +96,8 @@ impl<S: Read + Write + Drop> FeedLink<S> {
         self.feed.say_alive()
     }
 
-    /// Has its turn: what the peer sends is heard, and what is made for it is sent, of these last
-    /// rows, where chapters begin so.
+    /// Takes a turn: hears what the peer sends, and sends what is made for it, from these last rows
+    /// and beginnings of chapters.
     pub fn take_turn(
         &mut self,
         rows: &LastRows,

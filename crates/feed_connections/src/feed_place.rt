@@ -1,4 +1,4 @@
-//! A place of the feed: a peer's link, or nobody's.
+//! A place of the feed: a peer's link, or nothing.
 
 ghost use Rattle.std.specs.Prelude.{◌≡◌, true};
 ghost use Rattle.feed_connections.specs.Served.{IsServed, feed_of};

@@ -1,4 +1,4 @@
-//! What the octets of a feed's peer pass through: a connection over TCP, or one of a door.
+//! What carries the octets of a feed's peer: a connection over TCP, or one of a door.
 
 use connection_calls::{Caller, accept, accept_at_door, both_ways};
 use mio::net::{TcpListener, TcpStream, UnixListener, UnixStream};
@@ -10,7 +10,7 @@ use std::io::{self, Read, Write};
 pub enum FeedStream {
     /// Over TCP.
     Tcp(TcpStream),
-    /// Of a door.
+    /// At a door.
     Unix(UnixStream),
 }
 

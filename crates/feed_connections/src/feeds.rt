@@ -44,7 +44,7 @@ pub struct Feeds {
 }
 
 impl Feeds {
-    /// No links yet, and nowhere to come. The links' keys are those from this one on.
+    /// Returns a feed without links and listeners. The keys of its links begin with this one.
     pub fn new(alloc: Global, first_key: usize, now: Instant) -> Result<Feeds, NoMemory> {
         let mut places = Vec::with_capacity(alloc, FEEDS)?;
         for _ in 0..FEEDS {
@@ -66,12 +66,12 @@ impl Feeds {
     /// Closes the listeners, and each link that is left.
     pub fn close(self) {}
 
-    /// Peers come over TCP, too.
+    /// Accepts peers over TCP too.
     pub fn listen(&mut self, listener: TcpListener) -> Result<(), NoMemory> {
         self.add_entrance(FeedListener::Tcp(listener))
     }
 
-    /// Peers come at the feed's door, too.
+    /// Accepts peers at the feed's door too.
     pub fn listen_at_door(&mut self, listener: UnixListener) -> Result<(), NoMemory> {
         self.add_entrance(FeedListener::Unix(listener))
     }
@@ -84,17 +84,17 @@ impl Feeds {
         Ok(())
     }
 
-    /// Is there a peer, for which time passes, or one that waits to be accepted?
+    /// Is there a peer that may be late, or one that waits to be accepted?
     pub fn is_busy(&self) -> bool {
         self.have_callers() || self.places.iter().any(|place| place.is_some())
     }
 
-    /// How many peers there are.
+    /// Returns the number of peers.
     pub fn count(&self) -> usize {
         self.places.iter().filter(|place| place.is_some()).count()
     }
 
-    /// How long new rows wait still until they are fed, if there are some, and a peer.
+    /// Returns how long it is until new rows are fed, if there are new rows and a peer.
     pub fn time_left(&self, rows: &LastRows, now: Instant) -> Option<Duration> {
         if self.told == rows.next() || self.places.iter().all(|place| place.is_none()) {
             return None;
@@ -102,7 +102,7 @@ impl Feeds {
         Some(self.waits_until.duration_since(now))
     }
 
-    /// No further round comes: the next time rows are fed at once.
+    /// Notes that no further round comes: the next call of `serve` feeds rows at once.
     pub fn note_last_round(&mut self) {
         self.is_last = true;
     }
@@ -112,14 +112,14 @@ impl Feeds {
         self.entrances.iter().any(|entrance| entrance.has_callers)
     }
 
-    /// Connections may wait to be accepted.
+    /// Notes that connections may wait to be accepted.
     pub fn note_callers(&mut self) {
         for entrance in &mut self.entrances {
             entrance.has_callers = true;
         }
     }
 
-    /// The link of this key, if it is one, is ready.
+    /// Notes that the link of this key, if it is one, is ready.
     pub fn make_due(&mut self, key: usize) {
         let Some(number) = key.checked_sub(self.first_key) else {
             return;
@@ -130,7 +130,7 @@ impl Feeds {
         }
     }
 
-    /// The peer of this key, if it is one, takes no more: it leaves.
+    /// Drops the peer of this key, if there is one, because it takes no more.
     pub fn leave(&mut self, key: usize) {
         let Some(number) = key.checked_sub(self.first_key) else {
             return;
@@ -140,10 +140,10 @@ impl Feeds {
         }
     }
 
-    /// Each link that is ready, or waits for rows where there are new ones, has its turn with these
-    /// last rows: for new ones at most every 50 milliseconds, whatever their number. Then those
-    /// that wait are accepted. Once a second whoever is late is closed, and whoever has waited for
-    /// rows for ten seconds is told which is next.
+    /// Gives a turn with these last rows to each link that is ready, or that waits for rows when
+    /// there are new ones: for new rows at most every 50 milliseconds, whatever their number. Then
+    /// accepts the connections that wait. Once a second it closes peers that are late, and tells
+    /// each peer that has waited ten seconds for a row which row is next.
     #[tactic(auto, using(crate::proofs::Serving::serving))]
     pub fn serve(
         &mut self,

@@ -1,6 +1,6 @@
-//! The connections of a feed's peers. A `FeedLink` is that of one, whatever it passes through: what
-//! the peer sends is heard, and what is made for it is sent, in turns. A turn takes no longer than
-//! a few calls. `Feeds` has the listeners, and up to 64 links over sockets.
+//! The connections of a feed's peers. A `FeedLink` is the connection of one peer, over any kind of
+//! stream. In turns it hears what the peer sends, and sends what is made for the peer. A turn makes
+//! only a few calls. `Feeds` has the listeners, and up to 64 links over sockets.
 #![tactic(auto)]
 
 mod calls;

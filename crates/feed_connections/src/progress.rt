@@ -7,6 +7,6 @@ pub enum Progress {
     GoesOn,
     /// It waits for its peer, or for a row.
     Waits,
-    /// It is to be closed.
+    /// It has to be closed.
     Over,
 }

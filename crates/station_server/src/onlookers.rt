@@ -1,5 +1,4 @@
-//! Those who look on: the connections of the page and of the feed have their turns behind the
-//! round.
+//! The connections of the page and of the feed, which are served after the round.
 
 ghost use Rattle.std.specs.Prelude.{◌≡◌, IfSome, true};
 ghost use Rattle.feed_connections.specs.Served.{AreServed};
