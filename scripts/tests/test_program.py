@@ -161,7 +161,8 @@ def devices():
 def terminals():
     """At a terminal a command says what is typed there; else it says nothing."""
     messages, requests = "a message in hexadecimal", "a request in words"
-    for words, what in ([], messages), (["explain"], messages), (["spell"], requests):
+    of_messages = [], ["replay", KNOWN_SITE], ["explain"]
+    for words, what in [*((words, messages) for words in of_messages), (["spell"], requests)]:
         master, slave = pty.openpty()
         os.write(master, b"\x04")
         how = {"stdin": slave, "capture_output": True, "timeout": PATIENCE}

@@ -1086,6 +1086,12 @@ def faults_of_doors():
     expect_no_start(doors, advised("door dispenser-03: cannot listen") + "\n")
     expect("the file", (doors / "dispenser-03" / "socket").read_text(), "kept")
     expect_no_start(HERE / "no doors", f"cannot read {HERE / 'no doors'}\n")
+    doors = make_doors()
+    advice = "nobody could connect: make a folder for each node in it, or give --port"
+    expect_no_start(doors, f"no doors in {doors}\n{advice}\n")
+    doors = make_doors("feed")
+    with start_station("--doors", doors, port=None) as day:
+        end(day, f"no doors in {doors}: no till and no dispenser can connect\n")
     for words in ([], ["--page", "0"]):
         ended = run(PROGRAM, "station", KNOWN_SITE, *words, given=b"")
         needed = "error: a station needs --port N or --doors FOLDER\n"
