@@ -1089,8 +1089,8 @@ def faults_of_doors():
     doors = make_doors()
     advice = "nobody could connect: make a folder for each node in it, or give --port"
     expect_no_start(doors, f"no doors in {doors}\n{advice}\n")
-    doors = make_doors("feed")
-    with start_station("--doors", doors, port=None) as day:
+    doors, history = make_doors("feed"), HERE / "beside a feed's door"
+    with start_station("--doors", doors, "--history", history, port=None) as day:
         end(day, f"no doors in {doors}: no till and no dispenser can connect\n")
     for words in ([], ["--page", "0"]):
         ended = run(PROGRAM, "station", KNOWN_SITE, *words, given=b"")
