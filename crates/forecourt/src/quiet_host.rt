@@ -1,6 +1,8 @@
 //! A host on which a command ends quietly where whoever reads its standard output has closed the
 //! pipe, as `head` does.
 
+ghost use Rattle.std.specs.Prelude.{◌≡◌};
+
 use std::alloc::{Allocator, Global};
 use std::cell::Cell;
 use std::fmt::Display;
