@@ -200,6 +200,8 @@ impl<D: Disk> Journal<D> {
         ensures none_lost { self.old.stored ≤ self.new.stored }
         ensures journal { IsJournalOf book.now.rows self.new }
         ensures site { self.new.site ≡ self.old.site }
+        ensures begin { self.new.begin ≡ self.old.begin }
+        ensures refused { self.new.refused ≡ self.old.refused }
         ensures lines { OnOk result (GrowsByLines book.now.rows self.old self.new) }
         ensures quiet { kept_behind self.old.stored book.now.rows ≡ []
             → self.new.file ≡ self.old.file }

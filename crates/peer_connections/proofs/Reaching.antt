@@ -265,7 +265,7 @@ reaches_passing_late k s t by = reaches_wider (IsLate k) IsPassing wider s t by
   where
     wider : (m : Move) (u : StationState) → IsLate k m u → IsPassing m u
     wider (Finishes j) u is = tt
-    wider (Leaves j) u is = tt
+    wider (Leaves j) u is = is.1
     wider (Takes j n) u is = absurd is
     wider (Arrives j door) u is = absurd is
     wider (Says memory j octets) u is = absurd is
@@ -321,9 +321,10 @@ pub reaches_late_end : (k : ℕ) (s t : StoredState) → t ≡ with_station (wit
     → ReachesBy (IsLate k) s t
 reaches_late_end k s t end = reaches_moved (IsLate k) (Finishes k) s t tt refl end
 
-pub reaches_late : (k : ℕ) (s t : StoredState) → t ≡ with_station (without_peer k s.station) s
-    → ReachesBy (IsLate k) s t
-reaches_late k s t left = reaches_moved (IsLate k) (Leaves k) s t tt refl left
+pub reaches_late : (k : ℕ) (s t : StoredState) → is_served_at s.station k ≡ false
+    → t ≡ with_station (without_peer k s.station) s → ReachesBy (IsLate k) s t
+reaches_late k s t unserved left =
+    reaches_moved (IsLate k) (Leaves k) s t tt (refl, unserved) left
 
 -- .. at the day's end
 pub reaches_ended : (k : ℕ) (s t : StoredState) → t ≡ with_station (with_end k s.station) s

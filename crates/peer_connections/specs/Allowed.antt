@@ -71,10 +71,10 @@ IsClosing k (Finishes j) s = j ≡ k
 IsClosing k (Leaves j) s = (j ≡ k) × (lasts_at s j ≡ false)
 IsClosing k m s = ⊥
 
--- .. it was waited for too long: its session ends, or it leaves
+-- .. it was waited for too long: its session ends, or, if it isn't served, it leaves
 abbrev pub IsLate : ℕ → Move → StationState → Type 0
 IsLate k (Finishes j) s = j ≡ k
-IsLate k (Leaves j) s = j ≡ k
+IsLate k (Leaves j) s = (j ≡ k) × (is_served_at s j ≡ false)
 IsLate k m s = ⊥
 
 -- a peer of this door, or over TCP, leaves that isn't served
@@ -133,11 +133,12 @@ IsEnding (Finishes j) s = ⊤
 IsEnding (Leaves j) s = ⊤
 IsEnding m s = ⊥
 
--- time passes: nobody comes, is heard, or is sent anything
+-- time passes: nobody comes, is heard, or is sent anything, and nobody leaves who is served
 abbrev pub IsPassing : Move → StationState → Type 0
 IsPassing (Arrives j door) s = ⊥
 IsPassing (Says memory j octets) s = ⊥
 IsPassing (Takes j n) s = ⊥
+IsPassing (Leaves j) s = is_served_at s j ≡ false
 IsPassing m s = ⊤
 
 -- the station acts by itself, for which the rows in memory may be forgotten

@@ -63,7 +63,22 @@ impl<D: Disk, S: PeerSocket> Connections<D, S> {
             Timeout::Idle(seconds) => self.end_late(rt, key, "came", seconds, now),
             Timeout::Stuck(seconds) => self.end_late(rt, key, "was taken", seconds, now),
             Timeout::Soon => self.may_wait = true,
-            Timeout::Over => self.remove(key),
+            Timeout::Over => self.leave_late(key),
+        }
+    }
+
+    /// The peer of a key leaves, which was waited for too long, unless it is served.
+    #[tactic(auto, using(crate::proofs::Reaching::left_late, crate::proofs::Linking::kept, crate::proofs::Known::known, crate::proofs::Dues::due))]
+    fn leave_late(&mut self, key: usize)
+        ensures moves { ReachesBy (IsLate key) self.old.stored self.new.stored }
+        ensures others { OthersStay key self.old.links.items self.new.links.items }
+        ensures unread { StaysKnownAt S.remaining key self.old.links.items self.new.links.items }
+        ensures got { StaysKnownAt S.contents key self.old.links.items self.new.links.items }
+        ensures changes { self.new.changes ≡ self.old.changes }
+        ensures due { self.new.due ≡ self.old.due }
+    {
+        if self.look_for_message(key).is_some() {
+            self.remove(key);
         }
     }
 

@@ -1,6 +1,7 @@
 //! The station's own rows: of dispensers that are gone, and of releases that nobody used.
 
-ghost use Rattle.std.specs.Prelude.{◌≡◌};
+ghost use Rattle.std.specs.Prelude.{◌≡◌, OnOk};
+ghost use Rattle.journal.specs.Memory.{HasRoomToHear};
 ghost use Rattle.peer_connections.specs.Allowed.{IsOwn};
 ghost use Rattle.peer_connections.specs.Reaches.{ReachesBy};
 ghost use Rattle.peer_connections.specs.Sending.{KeepsChanges};
@@ -91,6 +92,7 @@ impl<D: Disk, S: PeerSocket> Connections<D, S> {
     #[tactic(auto, using(crate::proofs::Reaching::done_alone, crate::proofs::Pairing::paired))]
     fn make_own_room(&mut self) -> Result<(), DiskFault>
         ensures moves { ReachesBy IsOwn self.old.stored self.new.stored }
+        ensures room { OnOk result (HasRoomToHear self.new.stored.station.book) }
         ensures links { self.new.links ≡ self.old.links }
         ensures due { self.new.due ≡ self.old.due }
         ensures noted { KeepsChanges self.old.changes self.new.changes

@@ -192,7 +192,7 @@ impl<D: Disk, S: PeerSocket> Connections<D, S> {
     /// Since when a peer waits without a whole message, if it does: since it came, and one whose
     /// session has ended since then, or since it last took octets. A message of a node that no site
     /// has counts for nothing, and what such a peer sends behind it keeps it no place.
-    fn look_for_message(&self, key: usize) -> Option<Waiting>
+    pub(crate) fn look_for_message(&self, key: usize) -> Option<Waiting>
         ensures { is_some result ≡ true → is_served_at self.now.stored.station key ≡ false }
     {
         let Some(Some(link)) = self.links.get(key) else {
@@ -317,7 +317,7 @@ fn set_link<D: Disk, S: PeerSocket>(
 
 /// How long a peer has waited without a whole message.
 #[derive(Clone, Copy, Debug, PartialEq, Eq)]
-struct Waiting {
+pub(crate) struct Waiting {
     since: Instant,
     /// The station hasn't read yet all that the peer sent, and a first message may be in it.
     is_unread: bool,
