@@ -6,6 +6,7 @@ ghost use Rattle.peer_connections.specs.Reaches.{Reaches, ReachesBy};
 
 use crate::listeners::{LISTENER, accept_at};
 use crate::server::StationServer;
+use crate::sizes::ACCEPTS_A_ROUND;
 use connection_calls::{ACCEPTS_A_TURN, Caller};
 use journal::Disk;
 use mio::Interest;
@@ -54,7 +55,7 @@ impl StationServer {
     )
         ensures { ReachesBy (IsWelcome None) connections.old.stored connections.new.stored }
     {
-        if self.has_callers {
+        if self.has_callers || self.has_more_callers {
             self.accept_all(rt, connections);
         }
     }
@@ -144,7 +145,8 @@ impl StationServer {
         }
     }
 
-    /// Accepts one connection that waits over TCP, as `accept_one_at` does.
+    /// Accepts one connection that waits over TCP, as `accept_one_at` does. Nobody leaves for it
+    /// unless the port was reported: without a descriptor the system doesn't say whether one waits.
     #[tactic(auto, using(crate::proofs::Rounds::moved))]
     fn accept_one<D: Disk>(
         &mut self,
@@ -154,7 +156,7 @@ impl StationServer {
     {
         match accept_at(&self.listener) {
             Caller::Failed(error) => {
-                if !self.has_accepted && connections.make_way() {
+                if self.has_callers && !self.has_accepted && connections.make_way() {
                     accept_at(&self.listener)
                 } else {
                     Caller::Failed(error)
@@ -164,8 +166,10 @@ impl StationServer {
         }
     }
 
-    /// Accepts the connections that wait over TCP. Where that fails it is told, once until all that
-    /// wait are accepted, and tried again.
+    /// Accepts the connections that wait over TCP, but no more than a round may. If some may be left,
+    /// the listener is watched anew, so the next poll returns at once; that round goes on accepting,
+    /// even if the listener's event isn't among those that it looks at. If accepting fails, that is
+    /// printed, once until all that wait are accepted, and tried again.
     #[tactic(auto, using(crate::proofs::Rounds::moved))]
     fn accept_all<R: Eprint, D: Disk>(
         &mut self,
@@ -174,13 +178,20 @@ impl StationServer {
     )
         ensures { ReachesBy (IsWelcome None) connections.old.stored connections.new.stored }
     {
-        for _ in 0..ACCEPTS_A_TURN {
+        self.has_more_callers = false;
+        for _ in 0..ACCEPTS_A_ROUND {
             match self.welcome_next(rt, connections) {
                 Accepting::GoesOn => {}
                 Accepting::IsOver => return,
-                Accepting::Later => break,
+                Accepting::Later => return self.watch_port_again(),
             }
         }
+        self.has_more_callers = true;
+        self.watch_port_again();
+    }
+
+    /// The port is reported once more if connections still wait there.
+    fn watch_port_again(&mut self) {
         self.may_have_more = true;
         self.has_callers = false;
         if let Some(listener) = &mut self.listener {
@@ -210,7 +221,17 @@ impl StationServer {
                 self.has_callers = false;
                 Accepting::IsOver
             }
-            Caller::Failed(error) => self.note_failed(rt, &error),
+            Caller::Failed(error) => self.note_failed_on_port(rt, &error),
+        }
+    }
+
+    /// Accepting over TCP failed so. Where the port wasn't reported, it is tried again once it is:
+    /// then one waits.
+    fn note_failed_on_port<R: Eprint>(&mut self, rt: &R, error: &io::Error) -> Accepting {
+        if self.has_callers {
+            self.note_failed(rt, error)
+        } else {
+            Accepting::Later
         }
     }
 

@@ -7,8 +7,8 @@ ghost use Rattle.journal.specs.Stored.{JournalGoesOn, is_all_stored};
 ghost use Rattle.peer_connections.specs.Allowed.{IsFollowing, IsHeard, IsHearing};
 ghost use Rattle.peer_connections.specs.Due.{StayDue, is_due};
 ghost use Rattle.peer_connections.specs.Reaches.{Reaches, ReachesBy};
-ghost use Rattle.peer_connections.specs.Sending.{AreSentTo, HasChange, KeepsChanges, OwedAreDue};
-ghost use Rattle.peer_connections.specs.Sending.{OwedAreSentTo};
+ghost use Rattle.peer_connections.specs.Sending.{AreSentTo, FullAreDue, HasChange, KeepsChanges};
+ghost use Rattle.peer_connections.specs.Sending.{OwedAreDue, OwedAreSentTo};
 
 use crate::doors::Doors;
 use crate::fault::ServerFault;
@@ -56,6 +56,8 @@ pub struct StationServer {
     pub(crate) feed_port: Option<u16>,
     /// Connections may wait over TCP to be accepted.
     pub(crate) has_callers: bool,
+    /// The last round accepted as many over TCP as it may, so others may wait.
+    pub(crate) has_more_callers: bool,
     /// Accepting failed: it is tried again at the next sweep.
     pub(crate) is_refused: bool,
     /// A connection was accepted since others were heard: it is heard before a peer leaves for
@@ -399,6 +401,8 @@ impl StationServer {
         ensures owed { HasChange connections.old.changes connections.old.stored.station.book
             → OwedAreDue connections.new.stored.station connections.new.links.items
             connections.new.due }
+        ensures full { self.now.is_sweep_due ≡ true
+            → FullAreDue connections.new.links.items connections.new.due }
     {
         connections.make_owed_due();
         if self.is_sweep_due {
@@ -484,6 +488,7 @@ fn listen<N: Net, C: Clock>(
         feeds: None,
         feed_port: None,
         has_callers: false,
+        has_more_callers: false,
         is_refused: false,
         has_accepted: false,
         may_have_more: false,

@@ -3,6 +3,9 @@
 /// The most events that a round looks at.
 pub const EVENTS_A_ROUND: usize = 256;
 
+/// The most connections that a round accepts over TCP.
+pub const ACCEPTS_A_ROUND: usize = 256;
+
 /// The seconds between two sweeps. A sweep retries a failed accept, and looks for sessions that are
 /// idle or don't close.
 pub const SWEEP_SECONDS: u64 = 1;
