@@ -8,6 +8,26 @@ import threading
 
 SHOWN = 300  # characters of a text that isn't as wanted
 NO_FILE = "No such file or directory"  # the system's words
+# Below fault 62, where a station can't write its last chapter as it starts.
+NOT_WRITTEN = (
+    "fault 62\nthe last chapter can't be written: see whether the disk is full or fails, that this"
+    " user may write to the folder, and that nothing in it but a file is called *.starting"
+)
+# The same, where a station without a history can't print.
+NOT_PRINTED = (
+    "fault 62\nstandard output can't be written: see whether a disk is full, or the program that"
+    " reads it has ended"
+)
+# Below the name of a folder, where a station can't read a chapter in it as it starts.
+CHAPTER_UNREAD = (
+    "a chapter can't be read or flushed: see that each is a file that this user may read, and"
+    " whether the disk fails"
+)
+# Below the name of a folder that a station can't make.
+NOT_MADE = (
+    "the folder can't be made: the one above it must exist, and this user must be allowed to write"
+    " there"
+)
 ADVICE = {
     r"chapter \d+ is missing": "put its file back from a backup",
     r"chapter \d+ line \d+":
@@ -17,7 +37,12 @@ ADVICE = {
     r"history of another site":
         "give the site file that the history began with, or none; take out another site's chapters",
     r"history in use": "stop the station that has the folder, and print into none of its files",
-    r"site\.toml: fault .*": "put it back from a backup",
+    r"site\.toml: fault 74 rows":
+        "rows is at least 1024 for a station: if one has run on this file, put it back from a"
+        " backup, otherwise raise it",
+    r"site\.toml: fault .*":
+        "forecourt check shows where: if a station has run on this file, put it back from a backup,"
+        " otherwise correct it",
     r"fault 74 rows":
         "rows is at least 1024 for a station: raise it in the site file, or leave it out",
     r"house \d+: no manager": "name a till of its own among the managers of the site file",
@@ -86,6 +111,15 @@ def advised(fault):
         if re.fullmatch(pattern, fault):
             return f"{fault}\n{advice}"
     raise Failed(f"no advice for {fault}")
+
+
+def unstored(folder):
+    """Fault 62 of a station with its history in this folder, and below it what to do."""
+    advice = (
+        "can't be written: see whether a disk is full or fails, a file of the history was changed,"
+        " or the program that reads the output has ended"
+    )
+    return f"fault 62\nthe history in {folder}, or standard output, {advice}"
 
 
 def first_line(text):

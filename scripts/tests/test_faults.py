@@ -52,7 +52,7 @@ import threading
 import time
 import typing
 
-from shared.checks import Failed, expect
+from shared.checks import CHAPTER_UNREAD, NOT_PRINTED, NOT_WRITTEN, Failed, expect, unstored
 from shared.histories import (
     LOCK_FILE, SITE_FILE, check_chapters, find_untold, first_lines, is_read, list_chapters,
     read_chapters, read_rows, retitle, split_messages, whole_lines, without_marks, write_chapters,
@@ -77,7 +77,30 @@ MOST = 10_000  # runs in turn
 # In the folder in which a program runs; faults.c names them too.
 HISTORY, MOVED = "history", "moved"
 COPY = "000001.journal.starting"
-FAILED = "Input/output error"  # the system's words on a read that fails
+FAILED = "Input/output error"  # the system's words on a call that fails
+NO_ROOM, NO_LOCK = "No space left on device", "No locks available"  # .. on a write, on a lock
+# What a station says of its history as it starts: of a flush that fails of what it reads; of its
+# folder, which it can't flush; of its site file or chapter, which it can't write; and of a file that
+# isn't locked or opened.
+SITE_UNREAD = f"cannot read {HISTORY}/site.toml: {FAILED}"
+UNFLUSHED = f"cannot read {HISTORY}\n{CHAPTER_UNREAD}", SITE_UNREAD
+FOLDER_UNFLUSHED = f"fault 62\ncannot write {HISTORY}: {FAILED}"
+SITE_UNWRITTEN = [
+    f"fault 62\ncannot write {HISTORY}/site.toml: {why}" for why in (FAILED, NO_ROOM, NO_LOCK)
+]
+UNLOCKED, UNREAD = (f"cannot read {HISTORY}: {why}" for why in (NO_LOCK, FAILED))
+# .. by the call that fails.
+STARTS = {
+    "FAIL_JOURNAL_WRITE": [NOT_WRITTEN, SITE_UNWRITTEN[1]],
+    "FAIL_SYNC": [NOT_WRITTEN, SITE_UNWRITTEN[0], FOLDER_UNFLUSHED, *UNFLUSHED],
+    "STOP_AT_SYNC": [NOT_WRITTEN],
+    "FAIL_RENAME": [NOT_WRITTEN, SITE_UNWRITTEN[0]],
+    "FAIL_OPEN": [NOT_WRITTEN, SITE_UNWRITTEN[0], FOLDER_UNFLUSHED, *UNFLUSHED, UNREAD],
+    "FAIL_LOCK": [NOT_WRITTEN, SITE_UNWRITTEN[2], UNLOCKED],
+    "FAIL_ALLOCATION": [],
+}
+# .. and once it has started.
+NOT_STORED = unstored(HISTORY)
 
 
 class Place:
@@ -683,8 +706,8 @@ def fail_devices_of_station():
     expect("nothing", PLACE.station(), WHOLE_STATION)
     nobody = {"report": "", "till": None, "pump": None, "met": True, "status": 1}
     expect("no line", PLACE.station(FAIL_WRITE=1),
-                   WHOLE_STATION._replace(**nobody, err="fault 62\n"))  # fmt: skip
-    silent = WHOLE_STATION._replace(status=1, report="", err="fault 62\n", met=True)
+                   WHOLE_STATION._replace(**nobody, err=f"{NOT_PRINTED}\n"))  # fmt: skip
+    silent = WHOLE_STATION._replace(status=1, report="", err=f"{NOT_PRINTED}\n", met=True)
     expect("no report", PLACE.station(FAIL_WRITE=2), silent)
     for kind in LISTENING:
         expect(kind, PLACE.station(**{kind: 1}),
@@ -787,11 +810,8 @@ def fail_histories_of_station():
                     end = (got.end.status, got.end.report, got.end.err, got.end.met)
                     # Where only the seal at the day's end isn't there, each row and the report are.
                     report = whole.report if got.plain == [text] else ""
-                    wanted = [(1, report, "fault 62\n", True)]
-                    if kind == "FAIL_OPEN":
-                        wanted = [(1, "", f"{fault}\n", True) for fault in UNOPENED]
-                    if kind == "FAIL_SYNC":
-                        wanted += [(1, "", f"{fault}\n", True) for fault in UNFLUSHED]
+                    says = [NOT_STORED] if got.found else STARTS[kind]
+                    wanted = [(1, report, f"{fault}\n", True) for fault in says]
                     expect(f"{faults}: {end}", end in wanted, True)
                     return True
 
@@ -804,7 +824,7 @@ def fail_histories_of_station():
             expect(faults, (got.end, got.plain), (whole._replace(met=True), [text]))
             runs += 1
     got = PLACE.stored(None, FAIL_SYNC=1)
-    wanted = ([], 1, "fault 62\n", None)
+    wanted = ([], 1, f"{FOLDER_UNFLUSHED}\n", None)
     end = (got.texts, got.end.status, got.end.err, got.end.till)
     expect("a folder that isn't synced, and no line yet", end, wanted)
     return runs + 1
@@ -840,14 +860,9 @@ def flush_what_is_told_of_a_folder():
         files = [f"{HISTORY}/{name}" for name in ("site.toml", "000001.journal", "000002.journal")]
         for k, name in enumerate([*files, HISTORY], start=1):
             end, is_met = tell(k, *texts)
-            wanted = (1, first if k > 2 else b"", f"cannot read {name}\n", True)
+            wanted = (1, first if k > 2 else b"", f"cannot read {name}: {FAILED}\n", True)
             expect(f"{word}, flush {k}", (end.status, end.out, end.err, is_met), wanted)
     return 5 * len(FOLDER_COMMANDS)
-
-
-# A start flushes the site file and the closed chapters that it reads.
-UNFLUSHED = f"cannot read {HISTORY}", f"cannot read {HISTORY}/site.toml"
-UNOPENED = "fault 62", *UNFLUSHED
 
 
 # Till 1, a manager, closes the shift; then till 2 opens a point.
@@ -886,7 +901,7 @@ def fail_chapter_end(texts, kind, k, short):
     else:
         if got.end.report not in ("", report):
             raise Failed(f"{what}: the report isn't that of the history: {got}")
-        faults = [f"{fault}\n" for fault in UNOPENED]
+        faults = [f"{fault}\n" for fault in ([NOT_STORED] if got.found else STARTS[kind])]
         said = got.end.err.removeprefix(NO_NEW_CHAPTER)
         is_well = end[0] == 1 and said in faults
         no_memory = (4, "fault 31\n"), (1, "fault 64\n")
@@ -975,7 +990,7 @@ def reads_are_not_flushed():
         told, *rest = next(filter(None, ends))
         kinds = [decode(one)[0].kind for one in told if one]
         expect(f"{kind}: the reads", kinds, [ANSWER, ANSWER, ANSWER, ACKNOWLEDGE])
-        expect(kind, rest, [False, b"", (1, b"fault 62\n", True)])
+        expect(kind, rest, [False, b"", (1, f"{NOT_STORED}\n".encode(), True)])
     return 2
 
 
@@ -1017,11 +1032,11 @@ def fail_sockets_of_stored_station():
 def fail_openings_of_histories():
     """A history whose files aren't locked, or read, or whose copy isn't named, stays as it is."""
     runs = 0
-    unread, unwritten = f"cannot read {HISTORY}", "fault 62"
     wanted = {
-        "FAIL_LOCK": [unread, unwritten], "FAIL_RENAME": [unwritten],
-        "FAIL_FILE_READ": [f"cannot read {KNOWN_SITE}: {FAILED}", unread, f"{unread}/site.toml"],
-    }  # fmt: skip
+        "FAIL_LOCK": [UNLOCKED, NOT_WRITTEN],
+        "FAIL_RENAME": [NOT_WRITTEN],
+        "FAIL_FILE_READ": [f"cannot read {KNOWN_SITE}: {FAILED}", *UNFLUSHED],
+    }
     closed = write_chapters(KNOWN_SITE, OVER, b"")[0]
     second = write_chapters(KNOWN_SITE, OVER, write_rows(*BEFORE))[1]
     for texts, after in (
@@ -1052,6 +1067,9 @@ def fail_openings_of_histories():
 FLUSHES = (
     "the folder above", "the folder", "the site file", "the copy", "the folder", "the sign-off",
 )  # fmt: skip
+FLUSH_FAULTS = (
+    FOLDER_UNFLUSHED, FOLDER_UNFLUSHED, SITE_UNREAD, NOT_WRITTEN, NOT_WRITTEN, NOT_WRITTEN,
+)  # fmt: skip
 
 
 @test
@@ -1067,8 +1085,7 @@ def fail_copies_of_chapters():
         if not met:
             expect("so many flushes", k, len(FLUSHES) + 1)
             return False
-        is_site = k == 1 + FLUSHES.index("the site file")
-        fault = f"cannot read {HISTORY}/site.toml" if is_site else "fault 62"
+        fault = FLUSH_FAULTS[k - 1]
         expect(f"flush {k}", (end.status, end.out, end.err), (1, b"", f"{fault}\n"))
         left = STORED_LINES if is_anew else STORED_TEXT
         expect(f"flush {k}: the lines", texts, [left])
@@ -1095,7 +1112,8 @@ def move_chapters_at_starts():
             expect(f"flush {k}: what has its name", left, [first_lines(KNOWN_SITE)])
             expect(f"flush {k}: what was moved", beside, {MOVED: STORED_TEXT})
             return True
-        expect(f"flush {k}", (end.status, end.out, end.err), (1, b"", "fault 62\n"))
+        fault = FLUSH_FAULTS[k - 1]
+        expect(f"flush {k}", (end.status, end.out, end.err), (1, b"", f"{fault}\n"))
         expect(f"flush {k}: what has its name", texts, [b""])
         moved = STORED_TEXT if k == 1 + FLUSHES.index("the copy") else gone_on
         beside = {name: without_marks(text) for name, text in beside.items()}
@@ -1118,7 +1136,7 @@ def swap_copies_of_chapters():
             return False
         if k == 1 + FLUSHES.index("the copy"):
             got = (end.status, end.out, end.err, texts, beside)
-            expect(f"flush {k}", got, (1, b"", "fault 62\n", [STORED_TEXT], {COPY: b""}))
+            expect(f"flush {k}", got, (1, b"", f"{NOT_WRITTEN}\n", [STORED_TEXT], {COPY: b""}))
         else:
             left = {COPY: b""} if k > 1 + FLUSHES.index("the copy") else {}
             lines = [*map(without_marks, texts)]

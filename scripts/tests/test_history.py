@@ -20,7 +20,10 @@ import subprocess
 import threading
 import time
 
-from shared.checks import NO_FILE, Failed, Skipped, advised, expect, first_line
+from shared.checks import (
+    CHAPTER_UNREAD, NO_FILE, NOT_MADE, NOT_WRITTEN, Failed, Skipped, advised, expect, first_line,
+    unstored,
+)  # fmt: skip
 from shared.histories import (
     FIRST_LINES, LOCK_FILE, NO_SEAL, SITE_FILE, Told, chapter_path, check_chapters, count_rows,
     expect_looks, find_untold, first_lines, is_notice, is_read, is_sign_off, list_chapters,
@@ -46,6 +49,7 @@ from tests.suite import make_folder, start_chance, test
 HERE = make_folder()
 FIRST = first_lines(KNOWN_SITE)
 NOBODY = 65_534
+DENIED = "Permission denied"  # the system's words
 LINES = 150
 AT_ONCE = 6  # stations
 MANY = 200  # rows, and messages, until a disk is full
@@ -596,11 +600,13 @@ def faults_of_own_sites():
         expect("its site file stays", own.read_bytes(), text)
     own.unlink()
     for site in (None, KNOWN_SITE):
-        expect_refused("no site file, and a chapter", folder, f"cannot read {own}", site)
+        lost = "the history has lost its site file: put it back from a backup"
+        expect_refused("no site file, and a chapter", folder, f"cannot read {own}\n{lost}", site)
     expect("none is made", own.exists(), False)
     own.mkdir()
     for site in (None, KNOWN_SITE):
-        expect_refused("a folder as site file", folder, f"cannot read {own}", site)
+        why = f"cannot read {own}: not a regular file"
+        expect_refused("a folder as site file", folder, why, site)
     expect("the chapter", chapter_path(folder).read_bytes(), DAY_TEXT)
 
 
@@ -613,22 +619,37 @@ def no_folders():
     ring.symlink_to(ring)
     file = HERE / "file"
     file.write_bytes(FIRST)
-    names = [
-        file, fifo, dangling, ring, "/dev/full", "/dev/null", "", f"{file}/x", f"{file}/",
-        HERE / "no/such", HERE / ("x" * 300),
-    ]  # fmt: skip
-    for name in names:
+    no_folder, ring_found = "Not a directory", "Too many levels of symbolic links"
+    names = {
+        file: no_folder, fifo: no_folder, dangling: NO_FILE, ring: ring_found,
+        "/dev/full": no_folder, "/dev/null": no_folder, "": f"{NO_FILE}\n{NOT_MADE}",
+        f"{file}/x": no_folder, f"{file}/": no_folder,
+        HERE / "no/such": f"{NO_FILE}\n{NOT_MADE}", HERE / ("x" * 300): "File name too long",
+    }  # fmt: skip
+    for name, why in names.items():
         for site in (KNOWN_SITE, None):
-            expect_refused(f"{name}", name, f"cannot read {name}", site, timeout=10)
+            expect_refused(f"{name}", name, f"cannot read {name}: {why}", site, timeout=10)
     expect("nothing is made", sorted(p.name for p in HERE.iterdir() if p.name in
            ("nowhere", "no")), [])  # fmt: skip
     expect("the file stays", file.read_bytes(), FIRST)
     first = HERE / "first_without"
-    expect_refused("a first start", first, f"cannot read {first / SITE_FILE}", None)
+    advice = (
+        "if this is the first start, give a site file: forecourt station FILE --history FOLDER ..;"
+        " otherwise see that the folder's name is right, and that its disk is mounted"
+    )
+    expect_refused("a first start", first, f"cannot read {first / SITE_FILE}\n{advice}", None)
     expect("no chapter is made", list_chapters(first), [])
     ended = run(*command(first))
     expect("then with a site file", (ended.status, ended.err), (0, ""))
     expect_files("then with a site file", first, KNOWN_SITE, 1)
+    advice = "something else has this name, or the same with .starting"
+    for blocked in (f"{SITE_FILE}.starting", SITE_FILE):
+        path = HERE / "blocked" / blocked
+        path.parent.mkdir(exist_ok=True)
+        path.symlink_to(HERE / "nowhere")
+        why = f"fault 62\ncannot write {path.parent / SITE_FILE}: {advice}"
+        expect_refused(f"a link as {blocked}", path.parent, why)
+        path.unlink()
     link = HERE / "good"
     link.symlink_to(first)
     ended = run(*command(link))
@@ -639,7 +660,11 @@ def no_folders():
 def no_files():
     """What has a chapter's name, or the lock's, and is no file: it is refused at once."""
     folder = HERE / "no_files"
-    for name in (LOCK_FILE, chapter_path("", 1).name, chapter_path("", 2).name):
+    for name, why in (
+        (LOCK_FILE, ": its lock is no regular file"),
+        (chapter_path("", 1).name, f"\n{CHAPTER_UNREAD}"),
+        (chapter_path("", 2).name, ": its last chapter is no regular file"),
+    ):
         for what, make in (
             ("a folder", lambda path: path.mkdir()), ("a fifo", os.mkfifo),
             ("a dangling link", lambda path: path.symlink_to(HERE / "nowhere")),
@@ -649,8 +674,8 @@ def no_files():
             (folder / name).unlink(missing_ok=True)
             make(folder / name)
             ended = run(*command(folder), timeout=10)
-            got = (ended.status, ended.out, ended.err.startswith("cannot read "))
-            expect(f"{what} as {name}: {ended.err}", got, (1, b"", True))
+            got = (ended.status, ended.out, ended.err)
+            expect(f"{what} as {name}", got, (1, b"", f"cannot read {folder}{why}\n"))
     expect("nothing is made", (HERE / "nowhere").exists(), False)
 
 
@@ -673,17 +698,18 @@ def without_leave():
         path = write_chapter(DAY_TEXT, "kept")
         os.chown(path.parent, NOBODY, NOBODY)
         path.chmod(mode)
-        expect_refused(f"mode {mode:o}", path, f"cannot read {path.parent}", **how)
+        expect_refused(f"mode {mode:o}", path, f"cannot read {path.parent}: {DENIED}", **how)
         expect("the file", path.read_bytes(), DAY_TEXT)
     path = write_chapter(DAY_TEXT, "kept")
     path.parent.chmod(0o755)
     ended = run(*command(path), **how)
-    got = (ended.status, ended.out, ended.err.startswith("cannot read "))
-    expect(f"a folder of others: {ended.err}", got, (1, b"", True))
+    got = (ended.status, ended.out, ended.err)
+    expect("a folder of others", got, (1, b"", f"cannot read {path.parent}: {DENIED}\n"))
     expect("the file", path.read_bytes(), DAY_TEXT)
     expect("no lock is made", (path.parent / LOCK_FILE).exists(), False)
     folder = HERE / "none_yet"
-    expect_refused("in a folder of others", folder, f"cannot read {folder}", **how)
+    why = f"cannot read {folder}: {DENIED}\n{NOT_MADE}"
+    expect_refused("in a folder of others", folder, why, **how)
     expect("no folder is made", folder.exists(), False)
     folder = theirs / "history"
     ended = run(*command(folder), **how)
@@ -814,7 +840,7 @@ def no_place_for_a_copy():
 
     def expect_unopened(what):
         ended = run(*command(path))
-        expect(what, (ended.status, ended.out, ended.err), (1, b"", "fault 62\n"))
+        expect(what, (ended.status, ended.out, ended.err), (1, b"", f"{NOT_WRITTEN}\n"))
         expect(f"{what}: the chapter", path.read_bytes(), DAY_TEXT + b"01")
         expect(f"{what}: it stays", os.path.lexists(copy), True)
 
@@ -886,7 +912,7 @@ def closed_streams():
                 ended = run(*command(path, *words), preexec_fn=close_streams(*closed))
                 is_told = 1 not in closed
                 got = (ended.status, ended.err, ended.out != b"")
-                why = "" if is_told or 2 in closed else "fault 62\n"
+                why = "" if is_told or 2 in closed else f"{unstored(path.parent)}\n"
                 expect(f"{closed} closed", got, (0 if is_told else 1, why, is_told))
                 expect(f"{closed} closed: the file", read_plain(path), whole)
 
@@ -896,7 +922,7 @@ def full_output():
     """A standard output that takes nothing ends the day; its rows are there at the next start."""
     path = write_chapter(DAY_TEXT)
     ended = run(*command(path), sink="/dev/full")
-    expect("its end", (ended.status, ended.err), (1, "fault 62\n"))
+    expect("its end", (ended.status, ended.err), (1, f"{unstored(path.parent)}\n"))
     text = path.read_bytes()
     expect("its file", read_plain(path), DAY_TEXT + OFF_1)
     expect_opened("the next start", text, text, len(DAY) + 1)
@@ -961,7 +987,8 @@ def fill(path, what, seed, **how):
             asked = [command_point(1, 0, 1, one) for one in (CLOSE, OPEN) * pairs]
         came[(DISPENSER, 1)] += receive_all(pump)
         out, err = day.process.communicate(timeout=WAIT)
-        expect(f"{what}: the end", (day.process.returncode, out, err), (1, b"", b"fault 62\n"))
+        fault = f"{unstored(path.parent)}\n".encode()
+        expect(f"{what}: the end", (day.process.returncode, out, err), (1, b"", fault))
     text = whole_lines(path.read_bytes())
     rows = read_rows(PROGRAM, KNOWN_SITE, text)
     for node, octets in came.items():
@@ -997,10 +1024,10 @@ def a_file_that_takes_no_more(seed):
         expect_opened("with more room", path.read_bytes(), text, rows, write_rows(*offs))
     path = write_chapter(b"")
     ended = run(*command(path), preexec_fn=limit_file(len(FIRST) - 1))
-    expect("no first line", (ended.status, ended.out, ended.err), (1, b"", "fault 62\n"))
+    expect("no first line", (ended.status, ended.out, ended.err), (1, b"", f"{NOT_WRITTEN}\n"))
     path = write_chapter(DAY_TEXT)
     ended = run(*command(path), preexec_fn=limit_file(len(DAY_TEXT)))
-    expect("no sign-off", (ended.status, ended.out, ended.err), (1, b"", "fault 62\n"))
+    expect("no sign-off", (ended.status, ended.out, ended.err), (1, b"", f"{NOT_WRITTEN}\n"))
     expect("the rows stay", path.read_bytes(), DAY_TEXT)
 
 
@@ -1017,7 +1044,8 @@ def a_full_disk(seed):
         text = fill(path, "a full disk", seed)
         kept = write_chapter(path.read_bytes(), "kept")
         again = run(*command(path))
-        expect("again", (again.status, again.err) in ((0, ""), (1, "fault 62\n")), True)
+        ends = ((0, ""), (1, f"{NOT_WRITTEN}\n"), (1, f"{unstored(path.parent)}\n"))
+        expect("again", (again.status, again.err) in ends, True)
         expect("its rows stay", path.read_bytes().startswith(text), True)
         ended = run(*command(kept))
         expect("on another disk", (ended.status, ended.err), (0, ""))
@@ -1027,7 +1055,8 @@ def a_full_disk(seed):
                 pass
         full = disk / "second"
         ended = run(*command(full))
-        expect("no octet is left", (ended.status, ended.out, ended.err), (1, b"", "fault 62\n"))
+        fault = f"fault 62\ncannot write {full / SITE_FILE}: No space left on device\n"
+        expect("no octet is left", (ended.status, ended.out, ended.err), (1, b"", fault))
     finally:
         run("umount", disk)
 
@@ -1439,7 +1468,7 @@ def files_that_change():
                 expect(f"{what}: nor to another", receive_or_end(other), b"")
                 out, err = day.process.communicate(timeout=WAIT)
                 got = (day.process.returncode, out, err)
-                expect(f"{what}: its end", got, (1, b"", b"fault 62\n"))
+                expect(f"{what}: its end", got, (1, b"", f"{unstored(folder)}\n".encode()))
 
 
 @test

@@ -29,7 +29,7 @@ from shared import forecourts, page_day, page_pictures, random_figures, serving
 from shared.browser import (
     SCREEN, SOON, TELEPHONE, WIDE, expect_words, find_browser, open_page, read_tile, start_browser,
 )  # fmt: skip
-from shared.checks import Failed, Skipped, expect
+from shared.checks import Failed, Skipped, expect, unstored
 from shared.firefox import find_firefox, start_firefox
 from shared.histories import (
     NO_SEAL, count_rows, find_last_seal, read_chapters, retitle, time_line, write_chapters,
@@ -495,7 +495,8 @@ def only_what_is_stored():
                     continue
                 expect("answers", answers, [0, None])
                 _, told = page.day.process.communicate(timeout=serving.WAIT)
-                expect("the end", (page.day.process.returncode, told), (1, b"fault 62\n"))
+                fault = f"{unstored(folder)}\n".encode()
+                expect("the end", (page.day.process.returncode, told), (1, fault))
                 page.day.process.stdin = None
                 expect("lines", count_rows(read_chapters(folder)), 0)
                 met += 1

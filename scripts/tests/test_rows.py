@@ -567,4 +567,5 @@ def files_that_are_none():
             for command in ("replay", "explain", "sales", "report", "shifts", "next"):
                 ended = run(PROGRAM, command, folder)
                 got = (ended.status, ended.out, ended.err)
-                expect(f"{command} {name}", got, (1, b"", f"cannot read {folder}/{name}\n"))
+                said = f"cannot read {folder}/{name}: not a regular file\n"
+                expect(f"{command} {name}", got, (1, b"", said))

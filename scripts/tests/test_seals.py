@@ -183,7 +183,7 @@ def whole_histories():
             expect("a seal", (ended.status, ended.out.decode(), ended.err), (0, wanted, ""))
     for seal in (NO_SEAL, "f" * 64, seal_of(chapters.seal, b"")):
         ended = verify(folder, "--seal", seal)
-        wanted = f"{summary}seal {seal} stands nowhere in it\n"
+        wanted = f"{summary}seal {seal} isn't in the history\n"
         expect("no seal", (ended.status, ended.out.decode(), ended.err), (1, wanted, ""))
     for word in ("", "0", "0" * 63, "0" * 65, "g" * 64, "0x" + "0" * 62, " " + "0" * 63):
         ended = verify(folder, f"--seal={word}")
@@ -351,7 +351,7 @@ def cut_tails():
         first, second = ended.out.decode().splitlines()
         front = f"chapters 3 rows {read} seals {len(seals)} last {seals[-1].seal} from "
         expect(f"{size} octets: the summary", first[: len(front)], front)
-        expect(f"{size} octets: the seal", second, f"seal {noted} stands nowhere in it")
+        expect(f"{size} octets: the seal", second, f"seal {noted} isn't in the history")
         seal, chapter, line = seals[-1]
         told = verify(folder, "--seal", seal).out.decode().splitlines()[1]
         wanted = f"seal {seal} is that of chapter {chapter} line {line}"

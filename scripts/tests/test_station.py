@@ -25,7 +25,7 @@ import termios
 import threading
 import time
 
-from shared.checks import NO_FILE, Failed, advised, expect, first_line
+from shared.checks import NO_FILE, NOT_PRINTED, Failed, advised, expect, first_line
 from shared.histories import is_read
 from shared.running import close_input, compile_c, run
 from shared.serving import (
@@ -466,7 +466,7 @@ def floods_without_reading():
 def a_dispenser_that_never_reads():
     """Its session ends once it is owed too much: the till isn't held up. It comes back, and is
     told what stands."""
-    told = "session of d1: the peer doesn't take what it is owed\n"
+    told = "session of d1: the peer doesn't read what it is sent\n"
     with start_station() as day, day.connect() as till:
         pump = socket.socket()
         pump.setsockopt(socket.SOL_SOCKET, socket.SO_RCVBUF, 4_096)
@@ -594,6 +594,32 @@ def descriptors_spent():
         for peer in more:
             peer.close()
         expect("report", end(day), write_report(2, 0))
+
+
+@test
+def the_last_descriptor():
+    """Whose connection takes the last descriptor is served, and nobody leaves for it, not even a
+    peer that has said nothing yet: where none is left, the system doesn't say whether one more
+    waits."""
+    times = 5
+    with start_station() as day, day.connect() as first, day.connect() as silent:
+        ask(first, sign_on(1), SIGNED_ON[1])
+        # Each is accepted by the end of the round that answers the first request.
+        ask(first, read_point(1, 1, 2), replay(sign_on(1) + read_point(1, 1, 2))[16:])
+        process = day.process.pid
+        files = sorted(map(int, os.listdir(f"/proc/{process}/fd")))
+        expect("its descriptors", files, [*range(len(files))])
+        resource.prlimit(process, resource.RLIMIT_NOFILE, (len(files) + 1, len(files) + 1))
+        for _ in range(times):
+            with day.connect() as second:
+                ask(second, sign_on(2), SIGNED_ON[2])
+                ask(second, sign_off(2), SIGNED_ON[2])
+                port = second.getsockname()[1]
+            day.wait_until_left(port)
+        ask(silent, sign_on(3), SIGNED_ON[3])
+        ask(first, sign_off(1), SIGNED_ON[1])
+        expect_quiet_program(day)
+        expect("report", end(day), write_report(4 + 2 * times, 0))
 
 
 def speak(peer, number):
@@ -1085,7 +1111,7 @@ def faults_of_doors():
     (doors / "dispenser-03" / "socket").write_text("kept")
     expect_no_start(doors, advised("door dispenser-03: cannot listen") + "\n")
     expect("the file", (doors / "dispenser-03" / "socket").read_text(), "kept")
-    expect_no_start(HERE / "no doors", f"cannot read {HERE / 'no doors'}\n")
+    expect_no_start(HERE / "no doors", f"cannot read {HERE / 'no doors'}: {NO_FILE}\n")
     doors = make_doors()
     advice = "nobody could connect: make a folder for each node in it, or give --port"
     expect_no_start(doors, f"no doors in {doors}\n{advice}\n")
@@ -1390,7 +1416,7 @@ def never_full():
 def closed_output():
     """Where it can't tell where it listens, it serves nobody."""
     ended = run(PROGRAM, "station", KNOWN_SITE, "--port", "0", given=b"", sink="/dev/full")
-    expect("listening", (ended.status, ended.err), (1, f"{UNKEPT}fault 62\n"))
+    expect("listening", (ended.status, ended.err), (1, f"{UNKEPT}{NOT_PRINTED}\n"))
 
 
 # ---- the command line, and the order of faults

@@ -131,7 +131,8 @@ impl<'a, R: Files<File = File> + AllocGlobal> Disk for HistoryDisk<'a, R> {
         }
         let path = chapter_path(alloc, self.folder.as_str(), place + 1)?;
         match read_file(self.rt, path.as_str()) {
-            Ok(octets) => Ok(octets),
+            Ok(Some(octets)) => Ok(octets),
+            Ok(None) => Err(DiskFault::Failed),
             Err(error) => Err(disk_fault_of(&error)),
         }
     }

@@ -2,6 +2,7 @@
 
 ghost use Rattle.std.specs.Prelude.{◌≡◌, ◌≢◌, ℕ};
 ghost use Rattle.std.specs.IoError.{error_kind};
+ghost use Rattle.history_files.specs.Opening.{IoError};
 
 use history_folder::FolderFault;
 use journal::DiskFault;
@@ -12,14 +13,30 @@ use std::io::ErrorKind;
 use thiserror::Error;
 
 /// Why a history's folder can't be used.
-#[derive(Clone, Copy, Debug, PartialEq, Eq, Error)]
+#[derive(Debug, Drop, Error)]
 pub enum FileFault {
     /// An allocation failed.
     #[error("out of memory")]
     NoMemory,
-    /// The folder or a file in it can't be opened, or isn't one.
-    #[error("it can't be read")]
-    Unread,
+    /// The folder or a file in it can't be opened, for this reason.
+    #[error("it can't be read: {0}")]
+    Unread(io::Error),
+    /// What has the name of the file is something else: a folder, a pipe or a device. Where the file
+    /// is opened for writing, a link is something else, too.
+    #[error("it is no regular file")]
+    NoFile,
+    /// What has the name of its lock is something else, or a link.
+    #[error("its lock is no regular file")]
+    NoLock,
+    /// What has the name of its last chapter is something else, or a link.
+    #[error("its last chapter is no regular file")]
+    NoChapter,
+    /// It can't be written, since something else has its name or that of its copy.
+    #[error("something else has its name, or that of its copy")]
+    Blocked,
+    /// The folder isn't there and can't be made, for this reason.
+    #[error("it can't be made: {0}")]
+    Unmade(io::Error),
     /// Another process has it, or this process prints into one of its files.
     #[error("it is in use")]
     InUse,
@@ -27,8 +44,8 @@ pub enum FileFault {
     #[error("it is in use, for faults")]
     Untold,
     /// It can't be made and flushed.
-    #[error("it can't be written")]
-    Unwritten,
+    #[error("it can't be written: {0}")]
+    Unwritten(io::Error),
     /// There is no chapter of this number, but there is one of a greater number.
     #[error("chapter {0} is missing")]
     Missing(u64),
@@ -60,37 +77,50 @@ impl From<NoMemory> for FileFault {
 pub fn fault_of_folder(fault: FolderFault) -> FileFault
     ensures missing { (k : ℕ) → fault ≡ FolderFault.Missing k → result ≡ FileFault.Missing k }
     ensures memory { fault ≡ FolderFault.NoMemory → result ≡ FileFault.NoMemory }
-    ensures unread { fault ≡ FolderFault.Unread → result ≡ FileFault.Unread }
+    ensures unread { (error : IoError) → fault ≡ FolderFault.Unread error
+        → result ≡ FileFault.Unread error }
 {
     match fault {
         FolderFault::NoMemory => FileFault::NoMemory,
-        FolderFault::Unread => FileFault::Unread,
+        FolderFault::Unread(error) => FileFault::Unread(error),
         FolderFault::Missing(number) => FileFault::Missing(number),
     }
 }
 
 /// Returns the fault of a file that can't be opened.
-pub fn fault_of(error: &io::Error) -> FileFault
-    ensures memory { error_kind error.now ≡ ErrorKind.OutOfMemory → result ≡ FileFault.NoMemory }
-    ensures unread { error_kind error.now ≢ ErrorKind.OutOfMemory → result ≡ FileFault.Unread }
+pub fn fault_of(error: io::Error) -> FileFault
+    ensures memory { error_kind error ≡ ErrorKind.OutOfMemory → result ≡ FileFault.NoMemory }
+    ensures unread { error_kind error ≢ ErrorKind.OutOfMemory → result ≡ FileFault.Unread error }
 {
     if error.kind() == ErrorKind::OutOfMemory {
         FileFault::NoMemory
     } else {
-        FileFault::Unread
+        FileFault::Unread(error)
+    }
+}
+
+/// Returns the fault of a folder that can't be made.
+pub fn fault_of_making(error: io::Error) -> FileFault
+    ensures memory { error_kind error ≡ ErrorKind.OutOfMemory → result ≡ FileFault.NoMemory }
+    ensures unmade { error_kind error ≢ ErrorKind.OutOfMemory → result ≡ FileFault.Unmade error }
+{
+    if error.kind() == ErrorKind::OutOfMemory {
+        FileFault::NoMemory
+    } else {
+        FileFault::Unmade(error)
     }
 }
 
 /// Returns the fault of a file that can't be made and flushed.
-pub fn fault_of_write(error: &io::Error) -> FileFault
-    ensures memory { error_kind error.now ≡ ErrorKind.OutOfMemory → result ≡ FileFault.NoMemory }
-    ensures unwritten { error_kind error.now ≢ ErrorKind.OutOfMemory
-        → result ≡ FileFault.Unwritten }
+pub fn fault_of_write(error: io::Error) -> FileFault
+    ensures memory { error_kind error ≡ ErrorKind.OutOfMemory → result ≡ FileFault.NoMemory }
+    ensures unwritten { error_kind error ≢ ErrorKind.OutOfMemory
+        → result ≡ FileFault.Unwritten error }
 {
     if error.kind() == ErrorKind::OutOfMemory {
         FileFault::NoMemory
     } else {
-        FileFault::Unwritten
+        FileFault::Unwritten(error)
     }
 }
 

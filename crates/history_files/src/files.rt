@@ -1,6 +1,7 @@
 //! Opens the files of a history's folder, and the folder.
 
-ghost use Rattle.std.specs.Prelude.{◌≡◌, ◌⊎◌, IfErr};
+ghost use Rattle.std.specs.Prelude.{IfErr};
+ghost use Rattle.history_files.specs.Opening.{IsUnopened};
 
 use crate::fault::{FileFault, fault_of};
 use crate::identity::is_at;
@@ -36,7 +37,7 @@ pub fn open_alone<R: Files<File = File>>(rt: &R, name: &str) -> Result<File, Fil
     match lock(&file) {
         Ok(()) => {}
         Err(error) if error.kind() == ErrorKind::WouldBlock => return Err(FileFault::InUse),
-        Err(error) => return Err(fault_of(&error)),
+        Err(error) => return Err(fault_of(error)),
     }
     if is_at(rt, name, &file) {
         Ok(file)
@@ -45,18 +46,18 @@ pub fn open_alone<R: Files<File = File>>(rt: &R, name: &str) -> Result<File, Fil
     }
 }
 
-/// Opens the file of this name, or makes it. What is no file is `Unread`, and so is a link.
+/// Opens the file of this name, or makes it. What is no file is `NoFile`, and so is a link.
 fn open_or_make<R: Files<File = File>>(rt: &R, name: &str) -> Result<File, FileFault>
-    ensures { IfErr result (λ f. (f ≡ FileFault.NoMemory) ⊎ (f ≡ FileFault.Unread)) }
+    ensures { IfErr result IsUnopened }
 {
     match fs::symlink_metadata(rt, name) {
-        Ok(found) if !found.is_file() => return Err(FileFault::Unread),
-        Err(error) if error.kind() != ErrorKind::NotFound => return Err(fault_of(&error)),
+        Ok(found) if !found.is_file() => return Err(FileFault::NoFile),
+        Err(error) if error.kind() != ErrorKind::NotFound => return Err(fault_of(error)),
         _ => {}
     }
     match open_by(rt, OpenOptions::new().create(true), name) {
         Ok(file) => Ok(file),
-        Err(error) => Err(fault_of(&error)),
+        Err(error) => Err(fault_of(error)),
     }
 }
 
@@ -72,13 +73,16 @@ pub fn open_by<R: Files<File = File>>(
 }
 
 /// Reads all octets of the file of this name. They are flushed before it returns, because whoever
-/// put the file there (for example a restored backup) may not have flushed it. Anything but a file
-/// isn't opened: reading it might never end.
-pub fn read_file<R: Files<File = File> + AllocGlobal>(rt: &R, name: &str) -> io::Result<Vec<u8>> {
+/// put the file there (for example a restored backup) may not have flushed it. None of anything but
+/// a regular file, which isn't opened: reading it might never end.
+pub fn read_file<R: Files<File = File> + AllocGlobal>(
+    rt: &R,
+    name: &str,
+) -> io::Result<Option<Vec<u8>>> {
     if !fs::metadata(rt, name)?.is_file() {
-        return Err(io::Error::from(ErrorKind::InvalidInput));
+        return Ok(None);
     }
     let octets = fs::read(rt, name)?;
     File::open(rt, name)?.sync_data()?;
-    Ok(octets)
+    Ok(Some(octets))
 }

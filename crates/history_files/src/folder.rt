@@ -6,7 +6,7 @@ ghost use Rattle.history_files.specs.Counts.{chapters_closed, chapters_found, oc
 ghost use Rattle.history_files.specs.Counts.{octets_put};
 
 use crate::copies::{Place, Put, put_copy};
-use crate::fault::{FileFault, fault_of, fault_of_folder, fault_of_write};
+use crate::fault::{FileFault, fault_of, fault_of_folder, fault_of_making, fault_of_write};
 use crate::files::{flush_folder, make_folder, open_alone, read_file};
 use crate::history_disk::HistoryDisk;
 use crate::locked::HistoryFolder;
@@ -30,10 +30,14 @@ impl<'a, R: Files<File = File> + AllocGlobal> HistoryFolder<'a, R> {
         make_for_good(rt, folder)?;
         check_output(rt, folder)?;
         let path = path_in(rt.alloc(), folder, LOCK)?;
-        let lock = open_alone(rt, path.as_str())?;
+        let lock = match open_alone(rt, path.as_str()) {
+            Ok(lock) => lock,
+            Err(FileFault::NoFile) => return Err(FileFault::NoLock),
+            Err(fault) => return Err(fault),
+        };
         match flush_folder(rt, folder) {
             Ok(()) => {}
-            Err(error) => return Err(fault_of_write(&error)),
+            Err(error) => return Err(fault_of_write(error)),
         }
         let chapters = match count_chapters(rt, folder) {
             Ok(chapters) => chapters,
@@ -58,9 +62,10 @@ impl<'a, R: Files<File = File> + AllocGlobal> HistoryFolder<'a, R> {
     pub fn site_file(&self) -> Result<Option<Vec<u8>>, FileFault> {
         let path = path_in(self.rt.alloc(), self.folder.as_str(), SITE_FILE)?;
         match read_file(self.rt, path.as_str()) {
-            Ok(octets) => Ok(Some(octets)),
+            Ok(Some(octets)) => Ok(Some(octets)),
+            Ok(None) => Err(FileFault::NoFile),
             Err(error) if error.kind() == ErrorKind::NotFound => Ok(None),
-            Err(error) => Err(fault_of(&error)),
+            Err(error) => Err(fault_of(error)),
         }
     }
 
@@ -70,12 +75,13 @@ impl<'a, R: Files<File = File> + AllocGlobal> HistoryFolder<'a, R> {
         let path = path_in(self.rt.alloc(), self.folder.as_str(), SITE_FILE)?;
         match put_copy(self.rt, &Place::Free, None, path.as_str(), octets) {
             Put::Done(_) => {}
-            Put::Undone(error) => return Err(fault_of_write(&error)),
-            Put::Unknown => return Err(FileFault::Unwritten),
+            Put::Undone(error) if is_blocked(error.kind()) => return Err(FileFault::Blocked),
+            Put::Undone(error) => return Err(fault_of_write(error)),
+            Put::Unknown => return Err(FileFault::Blocked),
         }
         match flush_folder(self.rt, self.folder.as_str()) {
             Ok(()) => Ok(()),
-            Err(error) => Err(fault_of_write(&error)),
+            Err(error) => Err(fault_of_write(error)),
         }
     }
 
@@ -101,7 +107,7 @@ impl<'a, R: Files<File = File> + AllocGlobal> HistoryFolder<'a, R> {
         let open = if chapters == 0 {
             None
         } else {
-            Some(open_alone(rt, path.as_str())?)
+            Some(open_chapter(rt, path.as_str())?)
         };
         check_count(rt, folder.as_str(), chapters)?;
         Ok(HistoryDisk {
@@ -115,6 +121,23 @@ impl<'a, R: Files<File = File> + AllocGlobal> HistoryFolder<'a, R> {
             flushed: 0,
             is_own: false,
         })
+    }
+}
+
+/// Does the error say that something else has the name of a file that is put there, or that of its
+/// copy?
+fn is_blocked(kind: ErrorKind) -> bool {
+    matches!(
+        kind,
+        ErrorKind::AlreadyExists | ErrorKind::NotFound | ErrorKind::WouldBlock
+    )
+}
+
+/// Opens the last chapter, which has this path, for this process alone.
+fn open_chapter<R: Files<File = File>>(rt: &R, path: &str) -> Result<File, FileFault> {
+    match open_alone(rt, path) {
+        Err(FileFault::NoFile) => Err(FileFault::NoChapter),
+        opened => opened,
     }
 }
 
@@ -153,11 +176,11 @@ fn make_for_good<R: Files<File = File> + AllocGlobal>(
     match make_folder(rt, folder) {
         Ok(()) => match flush_folder(rt, above.as_str()) {
             Ok(()) => Ok(()),
-            Err(error) => Err(fault_of_write(&error)),
+            Err(error) => Err(fault_of_write(error)),
         },
         // An earlier start may have ended before it did this.
         Err(error) if error.kind() == ErrorKind::AlreadyExists => flush_again(rt, above.as_str()),
-        Err(error) => Err(fault_of(&error)),
+        Err(error) => Err(fault_of_making(error)),
     }
 }
 
@@ -167,7 +190,7 @@ fn make_for_good<R: Files<File = File> + AllocGlobal>(
 fn flush_again<R: Files<File = File>>(rt: &R, above: &str) -> Result<(), FileFault> {
     match flush_folder(rt, above) {
         Err(error) if !is_anothers(error.kind()) && !is_no_folder(error.kind()) => {
-            Err(fault_of_write(&error))
+            Err(fault_of_write(error))
         }
         _ => Ok(()),
     }

@@ -4,7 +4,7 @@ ghost use Rattle.program_io.specs.Statuses.{IsFailed};
 
 use crate::fault::FolderFault;
 use chapters::HistoryFault;
-use program_io::{FAULT, exit_no_memory, exit_with};
+use program_io::{FAULT, exit_no_memory, exit_unread, exit_with};
 use std::fmt::Display;
 use std::process::ExitCode;
 
@@ -12,12 +12,12 @@ use std::process::ExitCode;
 const SITE_LINE: u64 = 2;
 
 /// Prints why the chapters of this folder can't be counted, and returns the exit status.
-pub fn exit_folder(rt: &impl Eprint, folder: &str, fault: FolderFault) -> ExitCode
+pub fn exit_folder<R: Eprint + AllocGlobal>(rt: &R, folder: &str, fault: FolderFault) -> ExitCode
     ensures { IsFailed result }
 {
     match fault {
         FolderFault::NoMemory => exit_no_memory(rt),
-        FolderFault::Unread => exit_with(eprintln!(rt; "cannot read {folder}"), FAULT),
+        FolderFault::Unread(error) => exit_unread(rt, folder, &error),
         FolderFault::Missing(_) => exit_advised(rt, fault, "put its file back from a backup"),
     }
 }

@@ -9,14 +9,14 @@ use std::io::ErrorKind;
 use thiserror::Error;
 
 /// Why the chapters of a folder can't be counted.
-#[derive(Clone, Copy, Debug, PartialEq, Eq, Error)]
+#[derive(Debug, Drop, Error)]
 pub enum FolderFault {
     /// An allocation failed.
     #[error("fault 31")]
     NoMemory,
     /// The folder can't be listed.
-    #[error("cannot read the folder")]
-    Unread,
+    #[error("cannot read the folder: {0}")]
+    Unread(io::Error),
     /// There is no chapter of this number, but there is one of a greater number.
     #[error("chapter {0} is missing")]
     Missing(u64),
@@ -45,14 +45,14 @@ impl<T: Drop> From<AllocFailed<T>> for FolderFault {
 }
 
 /// The fault of a folder that isn't listed.
-pub(crate) fn fault_of(error: &io::Error) -> FolderFault
-    ensures memory { error_kind error.now ≡ ErrorKind.OutOfMemory
-        → result ≡ FolderFault.NoMemory }
-    ensures unread { error_kind error.now ≢ ErrorKind.OutOfMemory → result ≡ FolderFault.Unread }
+pub(crate) fn fault_of(error: io::Error) -> FolderFault
+    ensures memory { error_kind error ≡ ErrorKind.OutOfMemory → result ≡ FolderFault.NoMemory }
+    ensures unread { error_kind error ≢ ErrorKind.OutOfMemory
+        → result ≡ FolderFault.Unread error }
 {
     if error.kind() == ErrorKind::OutOfMemory {
         FolderFault::NoMemory
     } else {
-        FolderFault::Unread
+        FolderFault::Unread(error)
     }
 }

@@ -42,7 +42,7 @@ fn list_chapters<R: Files + AllocGlobal>(rt: &R, folder: &str) -> Result<Vec<u64
 {
     let entries = match fs::read_dir(&rt, folder) {
         Ok(entries) => entries,
-        Err(error) => return Err(fault_of(&error)),
+        Err(error) => return Err(fault_of(error)),
     };
     let mut numbers = Vec::new(rt.alloc());
     for entry in entries {
@@ -54,7 +54,7 @@ fn list_chapters<R: Files + AllocGlobal>(rt: &R, folder: &str) -> Result<Vec<u64
             }
             // A name that isn't text is no chapter's.
             Err(error) if error.kind() == ErrorKind::InvalidFilename => {}
-            Err(error) => return Err(fault_of(&error)),
+            Err(error) => return Err(fault_of(error)),
         }
     }
     Ok(numbers)

@@ -133,7 +133,7 @@ fn read_last_chapter<R: Files + Eprint + AllocGlobal>(
     let octets = read_flushed_file(rt, path)?;
     match flush_folder(rt, folder) {
         Ok(()) => Ok(octets),
-        Err(error) => Err(exit_folder(rt, folder, fault_of(&error))),
+        Err(error) => Err(exit_folder(rt, folder, fault_of(error))),
     }
 }
 

@@ -12,6 +12,10 @@ use site_file::{ConfigFault, read_config};
 use std::process::ExitCode;
 use std::rt::Files;
 
+/// What to do about a faulty site file of a folder.
+const MEND_SITE_FILE: &str = "forecourt check shows where: if a station has run on this file, put \
+                              it back from a backup, otherwise correct it";
+
 /// Reads the site of a folder, with the octets of its site file, which are flushed. If the file
 /// can't be read or has a fault, prints that and returns the exit status.
 pub fn read_folder_site<R: Files + Eprint + AllocGlobal>(
@@ -43,7 +47,7 @@ pub fn site_in_folder<R: Eprint + AllocGlobal>(
         Ok(config) => Ok(config),
         Err(ConfigFault::NoMemory) => Err(exit_no_memory(rt)),
         Err(fault) => Err(exit_with(
-            eprintln!(rt; "{SITE_FILE}: {fault}\nput it back from a backup"),
+            eprintln!(rt; "{SITE_FILE}: {fault}\n{MEND_SITE_FILE}"),
             FAULT,
         )),
     }

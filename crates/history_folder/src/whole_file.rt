@@ -3,7 +3,7 @@
 ghost use Rattle.std.specs.Prelude.{IfErr};
 ghost use Rattle.program_io.specs.Statuses.{IsFailed};
 
-use program_io::{FAULT, exit_with, read_file};
+use program_io::{FAULT, exit_unread, exit_with, read_file};
 use std::fs::{self, File, OpenFile};
 use std::io::{self, ErrorKind};
 use std::process::ExitCode;
@@ -16,7 +16,10 @@ fn read_whole_file<R: Files + Eprint + AllocGlobal>(rt: &R, name: &str) -> Resul
 {
     match fs::metadata(rt, name) {
         Ok(found) if !found.is_file() => {
-            Err(exit_with(eprintln!(rt; "cannot read {name}"), FAULT))
+            Err(exit_with(
+                eprintln!(rt; "cannot read {name}: not a regular file"),
+                FAULT,
+            ))
         }
         _ => read_file(rt, name),
     }
@@ -34,7 +37,7 @@ pub(crate) fn read_flushed_file<R: Files + Eprint + AllocGlobal>(
     let octets = read_whole_file(rt, name)?;
     match flush_octets(rt, name) {
         Ok(()) => Ok(octets),
-        Err(_) => Err(exit_with(eprintln!(rt; "cannot read {name}"), FAULT)),
+        Err(error) => Err(exit_unread(rt, name, &error)),
     }
 }
 

@@ -5,7 +5,7 @@ ghost use Rattle.std.specs.Process.{exit_status};
 ghost use Rattle.program_io.specs.Statuses.{IsFailed};
 ghost use Rattle.site_file.specs.SiteFile.{config_of};
 
-use crate::exit::{FAULT, exit_fault, exit_no_memory, exit_with};
+use crate::exit::{FAULT, exit_fault, exit_no_memory, exit_unwritten, exit_with};
 use site_base::SiteConfig;
 use site_file::{ConfigFault, read_config};
 use site_file_words::explain_fault;
@@ -62,13 +62,13 @@ pub fn read_file<R: Files + Eprint + AllocGlobal>(rt: &R, name: &str) -> Result<
     match fs::read(rt, name) {
         Ok(octets) => Ok(octets),
         Err(error) if error.kind() == ErrorKind::OutOfMemory => Err(exit_no_memory(rt)),
-        Err(error) => Err(exit_unread(rt, name, error)),
+        Err(error) => Err(exit_unread(rt, name, &error)),
     }
 }
 
-/// Says that a file can't be read, and why, in the system's words. If there is no memory for them,
-/// they are left out.
-fn exit_unread<R: Eprint + AllocGlobal>(rt: &R, name: &str, error: Error) -> ExitCode
+/// Prints that a file or folder can't be read, and why, in the system's words. If memory runs out
+/// for them, they are left out. Returns `FAULT`.
+pub fn exit_unread<R: Eprint + AllocGlobal>(rt: &R, name: &str, error: &Error) -> ExitCode
     ensures { exit_status result ≡ FAULT }
 {
     match format!(in rt.alloc(); "{error}") {
@@ -77,6 +77,23 @@ fn exit_unread<R: Eprint + AllocGlobal>(rt: &R, name: &str, error: Error) -> Exi
             exit_with(eprintln!(rt; "cannot read {name}: {words}"), FAULT)
         }
         Err(_) => exit_with(eprintln!(rt; "cannot read {name}"), FAULT),
+    }
+}
+
+/// Prints `fault 62`, and below it which file or folder can't be written, and why, in the system's
+/// words. If memory runs out for them, they are left out. Returns `FAULT`.
+pub fn exit_unstored<R: Eprint + AllocGlobal>(rt: &R, name: &str, error: &Error) -> ExitCode
+    ensures { exit_status result ≡ FAULT }
+{
+    match format!(in rt.alloc(); "{error}") {
+        Ok(text) => {
+            let words = without_number(text.as_str());
+            exit_with(
+                eprintln!(rt; "fault 62\ncannot write {name}: {words}"),
+                FAULT,
+            )
+        }
+        Err(_) => exit_unwritten(rt),
     }
 }
 

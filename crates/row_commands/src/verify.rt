@@ -128,7 +128,7 @@ fn put_time(time: Option<Stamp>, text: &mut Vec<u8>) -> Result<(), NoMemory>
     Ok(())
 }
 
-/// Prints where a seal stands. If it stands nowhere, that is a fault.
+/// Prints where a seal is. If it isn't in the history, that is a fault.
 fn print_place(
     rt: &(impl Print + Eprint),
     seal: &str,
@@ -141,7 +141,7 @@ fn print_place(
         Some(LinePlace { chapter, line }) => {
             println!(rt; "seal {seal} is that of chapter {chapter} line {line}")
         }
-        None => println!(rt; "seal {seal} stands nowhere in it"),
+        None => println!(rt; "seal {seal} isn't in the history"),
     };
     if printed.is_err() {
         return Err(exit_unwritten(rt));

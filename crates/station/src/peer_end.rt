@@ -27,7 +27,7 @@ impl fmt::Display for PeerEnd {
             PeerEnd::Well => write!(f, "the octets ended"),
             PeerEnd::Talk(fault) => write!(f, "fault {}: {fault}", fault.number()),
             PeerEnd::NoMemory => write!(f, "fault 31: out of memory"),
-            PeerEnd::Behind => write!(f, "the peer doesn't take what it is owed"),
+            PeerEnd::Behind => write!(f, "the peer doesn't read what it is sent"),
             PeerEnd::Barred(_) => write!(f, "it may not speak there"),
             PeerEnd::Crowded(_) => write!(f, "it has {NODE_SESSIONS} sessions"),
         }

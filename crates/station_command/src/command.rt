@@ -6,16 +6,18 @@ ghost use Rattle.std.specs.Prelude.{◌≡◌};
 ghost use Rattle.station.specs.Gates.{open_gates};
 ghost use Rattle.station.specs.Runs.{opening_station};
 ghost use Rattle.journal.specs.Opening.{HasNobodyOn};
+ghost use Rattle.program_io.specs.Statuses.{IsFailed};
 ghost use Rattle.station_command.specs.Histories.{IsFound};
 
 use crate::doors::open_doors;
+use crate::ends::exit_station;
 use crate::error_lines::{ErrorLines, Reporting};
 use crate::feed_start::{EarlierRows, read_earlier};
 use crate::found::{FoundHistory, print_found};
 use crate::histories::open_station;
 use crate::input_watch::InputWatch;
 use command_line::StationOptions;
-use day_base::{DayFault, HousePlan, OptionFault, ReportForm, StationPlan, exit_day};
+use day_base::{DayFault, HousePlan, OptionFault, ReportForm, StationPlan};
 use devices::Counted;
 use history_files::HistoryDisk;
 use journal::{Disk, Opened};
@@ -125,19 +127,12 @@ fn run_opened<
 {
     let house = match find_house(opened.station.book().config(), plans.house.house) {
         Ok(house) => house,
-        Err(number) => {
-            let advice = "name a till of its own among the managers of the site file";
-            return exit_with(eprintln!(rt; "house {number}: no manager\n{advice}"), FAULT);
-        }
+        Err(number) => return exit_no_manager(rt, number),
     };
-    let mut open = match open_doors(rt, options.doors) {
+    let mut open = match open_doors(rt, options.doors, options.port.is_some()) {
         Ok(open) => open,
         Err(status) => return status,
     };
-    if let Err(status) = check_doors(rt, &options, &open.doors) {
-        open.sockets.remove(rt);
-        return status;
-    }
     let has_feed = plans.station.feed.is_some() || open.doors.has_feed();
     let has_page = plans.station.page.is_some();
     let book = opened.station.book();
@@ -156,7 +151,7 @@ fn run_opened<
         Ok(lines) => lines,
         Err(fault) => {
             open.sockets.remove(rt);
-            return exit_day::<()>(rt, Err(fault));
+            return exit_station(rt, Err(fault), options.history);
         }
     };
     let reporting = Reporting {
@@ -168,32 +163,16 @@ fn run_opened<
     );
     lines.end(threads);
     open.sockets.remove(rt);
-    exit_day(rt, end)
+    exit_station(rt, end, options.history)
 }
 
-/// Says that the folder of the doors, if there is one, has none of a till or dispenser, and who may
-/// connect then. If nobody could, the program ends.
-fn check_doors(
-    rt: &impl Eprint,
-    options: &StationOptions<'_>,
-    doors: &Doors,
-) -> Result<(), ExitCode> {
-    let Some(folder) = options.doors else {
-        return Ok(());
-    };
-    if doors.len() > 0 {
-        return Ok(());
-    }
-    if options.port.is_some() {
-        let _ = eprintln!(rt; "no doors in {folder}: each node may connect over TCP");
-        return Ok(());
-    }
-    if doors.has_feed() {
-        let _ = eprintln!(rt; "no doors in {folder}: no till and no dispenser can connect");
-        return Ok(());
-    }
-    let advice = "nobody could connect: make a folder for each node in it, or give --port";
-    Err(exit_with(eprintln!(rt; "no doors in {folder}\n{advice}"), FAULT))
+/// Prints that the house till is to be a till of this number, which is no manager's, and what to do.
+/// Returns the exit status.
+fn exit_no_manager(rt: &impl Eprint, number: u8) -> ExitCode
+    ensures { IsFailed result }
+{
+    let advice = "name a till of its own among the managers of the site file";
+    exit_with(eprintln!(rt; "house {number}: no manager\n{advice}"), FAULT)
 }
 
 /// The house till of this number, if there is to be one; the number, where it is no manager's.

@@ -6,7 +6,7 @@ ghost use Rattle.std.specs.Prelude.{IfErr};
 
 use device_map::{dispenser, till};
 use mio::net::{UnixListener, UnixStream};
-use program_io::{FAULT, exit_no_memory, exit_with};
+use program_io::{FAULT, exit_no_memory, exit_unread, exit_with};
 use site_base::{FpNo, NoMemory, TillNo};
 use station::Gates;
 use station_server::Doors;
@@ -54,7 +54,7 @@ impl Sockets {
 enum DoorFault {
     NoMemory,
     /// The folder of the doors can't be listed.
-    Unread,
+    Unread(io::Error),
     /// No node has this name.
     NoNode(String),
     /// Somebody answers at its socket.
@@ -83,11 +83,13 @@ enum SocketFault {
 }
 
 /// Listens at the doors of this folder, if one is given: at the socket of each subfolder that has
-/// the name of a node, or that of the feed's door. On an error, removes the sockets, prints why and
-/// returns the exit status.
+/// the name of a node, or that of the feed's door. If there is no node's, prints who may connect
+/// then; it is a fault if nobody could. On an error, removes the sockets, prints why and returns
+/// the exit status.
 pub fn open_doors<R: Files<File = File> + Net + Eprint + AllocGlobal>(
     rt: &R,
     folder: Option<&str>,
+    has_port: bool,
 ) -> Result<OpenDoors, ExitCode>
     ensures { IfErr result IsFailed }
 {
@@ -102,13 +104,42 @@ pub fn open_doors<R: Files<File = File> + Net + Eprint + AllocGlobal>(
     let Some(folder) = folder else {
         return Ok(open);
     };
-    match open_each(rt, folder, &mut open) {
+    let end = match open_each(rt, folder, &mut open) {
+        Ok(()) => check_doors(rt, folder, has_port, &open.doors),
+        Err(fault) => Err(exit_door(rt, folder, &fault)),
+    };
+    match end {
         Ok(()) => Ok(open),
-        Err(fault) => {
+        Err(status) => {
             open.sockets.remove(rt);
-            Err(exit_door(rt, folder, &fault))
+            Err(status)
         }
     }
+}
+
+/// Prints that this folder has no door of a till or dispenser, if it has none, and who may connect
+/// then. If nobody could, the program ends.
+fn check_doors(
+    rt: &impl Eprint,
+    folder: &str,
+    has_port: bool,
+    doors: &Doors,
+) -> Result<(), ExitCode>
+    ensures { IfErr result IsFailed }
+{
+    if doors.len() > 0 {
+        return Ok(());
+    }
+    if has_port {
+        let _ = eprintln!(rt; "no doors in {folder}: each node may connect over TCP");
+        return Ok(());
+    }
+    if doors.has_feed() {
+        let _ = eprintln!(rt; "no doors in {folder}: no till and no dispenser can connect");
+        return Ok(());
+    }
+    let advice = "nobody could connect: make a folder for each node in it, or give --port";
+    Err(exit_with(eprintln!(rt; "no doors in {folder}\n{advice}"), FAULT))
 }
 
 /// Opens each door of a folder, once each has the name of a node, and no other station has them.
@@ -131,10 +162,10 @@ fn open_each<R: Files<File = File> + Net + AllocGlobal>(
 
 /// The names of the folders in a folder, in any order. One whose name isn't text is no node's.
 fn list_folders<R: Files + AllocGlobal>(rt: &R, folder: &str) -> Result<Vec<String>, DoorFault> {
-    let entries = fs::read_dir(&rt, folder).map_err(|_| DoorFault::Unread)?;
+    let entries = fs::read_dir(&rt, folder).map_err(DoorFault::Unread)?;
     let mut names = Vec::new(rt.alloc());
     for entry in entries {
-        let entry = entry.map_err(|_| DoorFault::Unread)?;
+        let entry = entry.map_err(DoorFault::Unread)?;
         let name = entry.file_name().to_string(rt.alloc())?;
         match fs::metadata(rt, entry.path()) {
             Ok(found) if !found.is_dir() => {}
@@ -161,13 +192,11 @@ fn lock_doors<R: Files<File = File> + AllocGlobal>(
     folder: &str,
     first: &str,
 ) -> Result<File, DoorFault> {
-    let Ok(file) = File::open(rt, folder) else {
-        return Err(DoorFault::Unread);
-    };
+    let file = File::open(rt, folder).map_err(DoorFault::Unread)?;
     match file.try_lock() {
         Ok(()) => Ok(file),
         Err(TryLockError::WouldBlock) => Err(DoorFault::InUse(first.to_string(rt.alloc())?)),
-        Err(TryLockError::Error(_)) => Err(DoorFault::Unread),
+        Err(TryLockError::Error(error)) => Err(DoorFault::Unread(error)),
     }
 }
 
@@ -271,12 +300,12 @@ fn is_socket<R: Files>(rt: &R, path: &str) -> bool {
 }
 
 /// Says why a door of this folder isn't opened.
-fn exit_door(rt: &impl Eprint, folder: &str, fault: &DoorFault) -> ExitCode
+fn exit_door<R: Eprint + AllocGlobal>(rt: &R, folder: &str, fault: &DoorFault) -> ExitCode
     ensures { IsFailed result }
 {
     match fault {
         DoorFault::NoMemory => exit_no_memory(rt),
-        DoorFault::Unread => exit_with(eprintln!(rt; "cannot read {folder}"), FAULT),
+        DoorFault::Unread(error) => exit_unread(rt, folder, error),
         DoorFault::NoNode(name) => exit_with(
             eprintln!(rt;
                 "door {name}: no node\n\

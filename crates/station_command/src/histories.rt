@@ -18,10 +18,11 @@ use chapters::site_name;
 use history_files::{FileFault, HistoryDisk, HistoryFolder};
 use history_folder::{FolderFault, exit_advised, exit_folder, exit_history, path_in};
 use journal::{OpenFault, Opened, StoredStation, open_journal};
-use program_io::{COMMAND_LINE, FAULT, exit_no_memory, exit_unwritten, exit_with};
+use program_io::{COMMAND_LINE, FAULT, exit_no_memory, exit_unread, exit_unstored, exit_with};
 use site_base::SiteConfig;
 use stamps::StampClock;
 use std::fs::File;
+use std::io::{Error, ErrorKind};
 use std::process::ExitCode;
 use std::rt::{Clock, Files};
 
@@ -164,32 +165,84 @@ pub fn path_of<R: Eprint + AllocGlobal>(
     }
 }
 
-/// Prints why the file of this name can't be used, and returns the exit status.
-pub fn exit_file(rt: &impl Eprint, name: &str, fault: FileFault) -> ExitCode
+/// Prints why the file or folder of this name can't be used, and returns the exit status.
+pub fn exit_file<R: Eprint + AllocGlobal>(rt: &R, name: &str, fault: FileFault) -> ExitCode
     ensures { IsFailed result }
 {
     match fault {
         FileFault::NoMemory => exit_no_memory(rt),
-        FileFault::Unread => exit_with(eprintln!(rt; "cannot read {name}"), FAULT),
+        FileFault::Unread(error) => exit_unread(rt, name, &error),
+        FileFault::NoFile => {
+            exit_with(
+                eprintln!(rt; "cannot read {name}: not a regular file"),
+                FAULT,
+            )
+        }
+        FileFault::NoLock => exit_with(
+            eprintln!(rt; "cannot read {name}: its lock is no regular file"),
+            FAULT,
+        ),
+        FileFault::NoChapter => exit_with(
+            eprintln!(rt; "cannot read {name}: its last chapter is no regular file"),
+            FAULT,
+        ),
+        FileFault::Blocked => exit_with(
+            eprintln!(rt;
+                "fault 62\n\
+                 cannot write {name}: something else has this name, or the same with .starting"
+            ),
+            FAULT,
+        ),
+        FileFault::Unmade(error) => exit_unmade(rt, name, &error),
         FileFault::InUse => exit_advised(
             rt,
             "history in use",
             "stop the station that has the folder, and print into none of its files",
         ),
         FileFault::Untold => ExitCode::from(FAULT),
-        FileFault::Unwritten => exit_unwritten(rt),
+        FileFault::Unwritten(error) => exit_unstored(rt, name, &error),
         FileFault::Missing(number) => exit_folder(rt, name, FolderFault::Missing(number)),
     }
 }
 
-/// How the program ends where the history in the folder of this name isn't opened.
+/// Prints why a history's folder isn't there and can't be made, and below it what to do, if
+/// something is known. Returns the exit status.
+fn exit_unmade<R: Eprint + AllocGlobal>(rt: &R, name: &str, error: &Error) -> ExitCode
+    ensures { IsFailed result }
+{
+    let status = exit_unread(rt, name, error);
+    if matches!(
+        error.kind(),
+        ErrorKind::NotFound | ErrorKind::PermissionDenied
+    ) {
+        let _ = eprintln!(rt;
+            "the folder can't be made: the one above it must exist, and this user must be allowed \
+             to write there"
+        );
+    }
+    status
+}
+
+/// Prints why the history in the folder of this name isn't opened, and returns the exit status.
 fn exit_unopened(rt: &impl Eprint, name: &str, fault: OpenFault) -> ExitCode
     ensures { IsFailed result }
 {
     match fault {
         OpenFault::NoMemory => exit_no_memory(rt),
-        OpenFault::Unread => exit_with(eprintln!(rt; "cannot read {name}"), FAULT),
-        OpenFault::Unwritten => exit_unwritten(rt),
+        OpenFault::Unread => exit_with(
+            eprintln!(rt;
+                "cannot read {name}\n\
+                 a chapter can't be read or flushed: see that each is a file that this user may \
+                 read, and whether the disk fails"
+            ),
+            FAULT,
+        ),
+        OpenFault::Unwritten => exit_advised(
+            rt,
+            "fault 62",
+            "the last chapter can't be written: see whether the disk is full or fails, that this \
+             user may write to the folder, and that nothing in it but a file is called *.starting",
+        ),
         OpenFault::Refused(fault) => exit_history(rt, fault),
     }
 }

@@ -7,6 +7,7 @@
 
 mod command;
 mod doors;
+mod ends;
 mod error_lines;
 mod feed_start;
 mod found;

@@ -6,7 +6,7 @@ ghost use Rattle.program_io.specs.Statuses.{IsFailed};
 ghost use Rattle.site_file.specs.SiteFile.{config_of};
 
 use crate::histories::{exit_file, path_of};
-use history_files::{FileFault, HistoryFolder};
+use history_files::HistoryFolder;
 use history_folder::{SITE_FILE, exit_advised, exit_another_site, site_in_folder};
 use journal::LEAST_ROWS;
 use program_io::{FAULT, exit_with, read_site_file};
@@ -79,17 +79,32 @@ fn first_site<R: Files<File = File> + Eprint + AllocGlobal>(
     ensures rows { IfOk result (λ site. LEAST_ROWS ≤ site.0.rows) }
     ensures failed { IfErr result IsFailed }
 {
+    let chapters = folder.chapters();
     let Some(site) = site else {
-        return Err(exit_file(rt, path, FileFault::Unread));
+        return Err(exit_without_site(rt, path, chapters));
     };
     let (config, octets) = read_station_site(rt, site)?;
-    if folder.chapters() > 0 {
-        return Err(exit_file(rt, path, FileFault::Unread));
+    if chapters > 0 {
+        return Err(exit_without_site(rt, path, chapters));
     }
     match folder.keep_site_file(&octets) {
         Ok(()) => Ok((config, octets)),
         Err(fault) => Err(exit_file(rt, path, fault)),
     }
+}
+
+/// Prints that a folder with this many chapters has no site file, whose path this is, and what to
+/// do. Returns the exit status.
+fn exit_without_site(rt: &impl Eprint, path: &str, chapters: u64) -> ExitCode
+    ensures { IsFailed result }
+{
+    let advice = if chapters == 0 {
+        "if this is the first start, give a site file: forecourt station FILE --history FOLDER ..; \
+         otherwise see that the folder's name is right, and that its disk is mounted"
+    } else {
+        "the history has lost its site file: put it back from a backup"
+    };
+    exit_with(eprintln!(rt; "cannot read {path}\n{advice}"), FAULT)
 }
 
 /// The site that the octets of a folder's site file say, with them, or how the program ends: they
@@ -123,7 +138,11 @@ fn read_kept<R: Eprint + AllocGlobal>(rt: &R, octets: &[u8]) -> Result<SiteConfi
     let config = site_in_folder(rt, octets)?;
     if has_few_rows(&config) {
         return Err(exit_with(
-            eprintln!(rt; "{SITE_FILE}: fault 74 rows\nput it back from a backup"),
+            eprintln!(rt;
+                "{SITE_FILE}: fault 74 rows\n\
+                 rows is at least 1024 for a station: if one has run on this file, put it back \
+                 from a backup, otherwise raise it"
+            ),
             FAULT,
         ));
     }
