@@ -75,6 +75,8 @@ def closed_pipes():
     expect_quiet("explain", ["explain"], rows)
     expect_quiet("explain 20", ["explain", "20"])
     expect_quiet("spell", ["spell"], b"t1 SignOn\n")
+    for words in (["help"], ["--version"], ["check", "--help"]):
+        expect_quiet(" ".join(words), words)
     body = write_rows(station.sign_on(1), station.sign_off(1))
     history = write_history(HERE / "history", KNOWN_SITE, *write_chapters(KNOWN_SITE, body))
     for words in (["replay"], ["replay", "--json"], ["report"], ["sales"], ["meters"], ["explain"],
@@ -228,16 +230,16 @@ def help_texts():
             found = any(line.startswith("  ") and text in line for line in lines)
             expect(f"{word} speaks of {text}", found, True)
     for command, first in (
-        ("check", "Reads a site file, and tells its first fault or how large the site is"),
+        ("check", "Reads a site file, and prints its faults, or how large the site is"),
         (
             "replay",
-            "Answers the messages of standard input on the site of a file, or prints the replies of"
-            " a history",
+            "Prints the replies to the messages on standard input, on the site of a file, or the"
+            " replies of a history",
         ),
         (
             "report",
-            "Prints the report of what standard input records on the site of a file, or of a"
-            " history",
+            "Prints the report of the recorded messages on standard input, on the site of a file,"
+            " or of a history",
         ),
         (
             "serve",
@@ -248,12 +250,12 @@ def help_texts():
             "Serves every till and dispenser of a site on 127.0.0.1 until standard input ends, and"
             " prints the report of the day",
         ),
-        ("demo", "Runs a script, settles, and prints the report of the day"),
-        ("shifts", "Prints what each shift of a history cleared, a line for each"),
+        ("demo", "Runs the tills and dispensers of a script, and prints the report of the day"),
+        ("shifts", "Prints what each shift of a history cleared, one line for each"),
         (
             "next",
-            "Prints the site file with which a new history goes on where this one ended, or what"
-            " hinders that",
+            "Prints the site file with which a new history continues this one, or what has to be"
+            " settled first",
         ),
         (
             "explain",
@@ -262,19 +264,19 @@ def help_texts():
         ),
         (
             "sales",
-            "Prints the sales of what standard input records on the site of a file, or of a"
-            " history, as CSV",
+            "Prints the sales in the recorded messages on standard input, on the site of a file, or"
+            " in a history, as CSV",
         ),
         (
             "meters",
-            "Prints what was counted at each nozzle by what standard input records on the site of a"
-            " file, or by a history",
+            "Prints what each nozzle metered, in the recorded messages on standard input, on the"
+            " site of a file, or in a history",
         ),
-        ("spell", "Prints the requests that standard input asks for in words, in hexadecimal"),
+        ("spell", "Prints the requests that standard input has in words, as messages in hexadecimal"),
         (
             "ask",
-            "Asks a station that runs for the requests that standard input says in words, and"
-            " prints its replies",
+            "Sends the requests that standard input has in words to a running station, and prints"
+            " its replies",
         ),
     ):
         lines = expect_help(first, command, "--help")

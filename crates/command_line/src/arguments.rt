@@ -22,7 +22,7 @@ pub fn site_or_history<'a>(alloc: Global) -> Arg<'a>
     ensures local { result.global ≡ false }
 {
     Arg::new(alloc, "FILE")
-        .help("The site file, for what is recorded on standard input; or the folder of a history")
+        .help("The site file, for the messages on standard input; or the folder of a history")
         .required(true)
 }
 
@@ -35,7 +35,7 @@ pub fn shift<'a>(alloc: Global) -> Arg<'a>
         alloc,
         "shift",
         "A[..B]",
-        "The shifts of the history, as 3 or 3..5; all without it",
+        "The shifts of the history, as 3 or 3..5 (default: all)",
     )
 }
 
@@ -67,7 +67,7 @@ pub fn optional_site_file<'a>(alloc: Global) -> Arg<'a>
     ensures rule { rule_of result ≡ new_rule (codes "FILE") }
     ensures local { result.global ≡ false }
 {
-    Arg::new(alloc, "FILE").help("The site file; a history that has begun has its own")
+    Arg::new(alloc, "FILE").help("The site file; a history that has begun has its own copy")
 }
 
 /// The folder of the history that a command reads.

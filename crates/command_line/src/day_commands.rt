@@ -12,7 +12,7 @@ use clap::Command;
 use std::alloc::{AllocError, Global};
 
 /// The port of a server or of a station.
-const ANY_PORT: &str = "The port, from 0 (a free one) to 65535";
+const ANY_PORT: &str = "The port on 127.0.0.1, 1 to 65535; 0 is a free one";
 
 /// Adds these commands to the program.
 pub fn add_commands<'a>(alloc: Global, program: Command<'a>) -> Result<Command<'a>, AllocError>
@@ -32,8 +32,8 @@ fn serve<'a>(alloc: Global) -> Result<Command<'a>, AllocError>
         "Serves tills and dispensers on 127.0.0.1, settles, and prints the report of the day";
     let example = "Example: forecourt serve examples/five_points.toml --port 4001 --workers 4 \
                    --sessions 100\n";
-    let workers = "How many sessions are served side by side, from 1 to 16";
-    let sessions = "How many sessions are served in all, from 1 to 10000";
+    let workers = "How many sessions are served at the same time, 1 to 16";
+    let sessions = "How many sessions are served in all, 1 to 10000";
     let command = start(alloc, "serve", about, example);
     let command = add_argument(command, site_file(alloc))?;
     let command = add_argument(command, required(alloc, "port", "N", ANY_PORT))?;
@@ -45,8 +45,8 @@ fn station<'a>(alloc: Global) -> Result<Command<'a>, AllocError>
     ensures { IfOk result (HasShape (command (codes "station")
         (new_rule (codes "FILE") ∷ option_rule (codes "port") ∷ option_rule (codes "doors")
         ∷ option_rule (codes "history") ∷ option_rule (codes "page") ∷ option_rule (codes "name")
-        ∷ option_rule (codes "feed") ∷ option_rule (codes "idle") ∷ option_rule (codes "rate") ∷ option_rule (codes "house")
-        ∷ option_rule (codes "release-age") ∷ option_rule (codes "lost")
+        ∷ option_rule (codes "feed") ∷ option_rule (codes "idle") ∷ option_rule (codes "rate")
+        ∷ option_rule (codes "house") ∷ option_rule (codes "release-age") ∷ option_rule (codes "lost")
         ∷ flag_rule (codes "detached") ∷ flag_rule (codes "json") ∷ []))) }
 {
     let about = "Serves every till and dispenser of a site on 127.0.0.1 until standard input ends, \
@@ -54,7 +54,8 @@ fn station<'a>(alloc: Global) -> Result<Command<'a>, AllocError>
     let example = "Example: forecourt station examples/five_points.toml --port 4001 \
                    --history history\n";
     let command = start(alloc, "station", about, example);
-    let doors = "The folder of the doors: a folder for each node, as till-01, in which it speaks";
+    let doors =
+        "The folder of the doors, with a folder for each node (till-01) that has its socket";
     let command = add_argument(command, optional_site_file(alloc))?;
     let command = add_argument(command, option(alloc, "port", "N", ANY_PORT))?;
     let command = add_argument(command, option(alloc, "doors", "FOLDER", doors))?;
@@ -65,22 +66,20 @@ fn station<'a>(alloc: Global) -> Result<Command<'a>, AllocError>
 fn add_station_options<'a>(alloc: Global, command: Command<'a>) -> Result<Command<'a>, AllocError>
     ensures { (s : _) → HasShape s command.entry → IfOk result (HasShape (with_arguments s
         (option_rule (codes "history") ∷ option_rule (codes "page") ∷ option_rule (codes "name")
-        ∷ option_rule (codes "feed") ∷ option_rule (codes "idle") ∷ option_rule (codes "rate") ∷ option_rule (codes "house")
-        ∷ option_rule (codes "release-age") ∷ option_rule (codes "lost")
+        ∷ option_rule (codes "feed") ∷ option_rule (codes "idle") ∷ option_rule (codes "rate")
+        ∷ option_rule (codes "house") ∷ option_rule (codes "release-age") ∷ option_rule (codes "lost")
         ∷ flag_rule (codes "detached") ∷ flag_rule (codes "json") ∷ []))) }
 {
     let history =
-        "Stores each row in this folder before a reply is sent, and goes on where it ended";
-    let page = "Serves a page that shows the site, on this port, from 0 (a free one) to 65535";
-    let name = "The site's name, which the page shows";
+        "Store each row in this folder before its reply is sent, and continue it at the next start";
+    let page = "Port of the page that shows the site; 0 is a free one (default: no page)";
+    let name = "The site's name on the page";
     let feed =
-        "Feeds each stored row to who asks, as JSON, on this port, from 0 (a free one) to 65535";
-    let idle = "Ends a session of which nothing came for so many seconds, from 1 to 86400";
-    let rate =
-        "Hears so many requests a second of a session at most, up to 1000000; 0: no limit; 1000 \
-                without it";
-    let detached = "Runs until the system stops it, whatever standard input does";
-    let json = "Prints the report as one object of JSON";
+        "Port of the feed, which sends each stored row as JSON; 0 is a free one (default: no feed)";
+    let idle = "End a session after this many seconds without input, 1 to 86400 (default: never)";
+    let rate = "Requests a second for each session, up to 1000000; 0 is no limit (default: 1000)";
+    let detached = "Run until the system stops it, also if standard input ends";
+    let json = "Print the report as one JSON object";
     let command = add_argument(command, option(alloc, "history", "FOLDER", history))?;
     let command = add_argument(command, option(alloc, "page", "N", page))?;
     let command = add_argument(command, option(alloc, "name", "TEXT", name))?;
@@ -98,11 +97,12 @@ fn add_house_options<'a>(alloc: Global, command: Command<'a>) -> Result<Command<
         (option_rule (codes "house") ∷ option_rule (codes "release-age")
         ∷ option_rule (codes "lost") ∷ []))) }
 {
-    let house = "The till, a manager, as which the station ends releases that nobody used";
-    let age =
-        "Ends a release after so many seconds without a lift, from 10 to 3600; 120 without it";
+    let house =
+        "A manager's till, 1 to 32, as which the station ends unused releases (default: none)";
+    let age = "Seconds after which --house ends an unused release, 10 to 3600 (default: 120)";
     let lost =
-        "Says Offline for a dispenser that is gone for so many seconds; 0: never; 60 without it";
+        "Make a point inoperative if its dispenser is gone for this many seconds, 0 to 86400; 0 is \
+         never (default: 60)";
     let command = add_argument(command, option(alloc, "house", "T", house))?;
     let command = add_argument(command, option(alloc, "release-age", "SECONDS", age))?;
     add_argument(command, option(alloc, "lost", "SECONDS", lost))
@@ -112,9 +112,9 @@ fn demo<'a>(alloc: Global) -> Result<Command<'a>, AllocError>
     ensures { IfOk result (HasShape (command (codes "demo")
         (site_file_rule ∷ script_rule ∷ flag_rule (codes "loopback") ∷ []))) }
 {
-    let about = "Runs a script, settles, and prints the report of the day";
+    let about = "Runs the tills and dispensers of a script, and prints the report of the day";
     let example = "Example: forecourt demo examples/five_points.toml examples/saturday.demo\n";
-    let loopback = "The tills' sessions run over sockets, on 127.0.0.1";
+    let loopback = "Run the tills' sessions over sockets on 127.0.0.1";
     let command = start(alloc, "demo", about, example);
     let command = add_argument(command, site_file(alloc))?;
     let command = add_argument(command, script(alloc))?;

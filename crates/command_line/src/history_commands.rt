@@ -25,9 +25,9 @@ fn shifts<'a>(alloc: Global) -> Result<Command<'a>, AllocError>
     ensures { IfOk result (HasShape (command (codes "shifts")
         (folder_rule ∷ flag_rule (codes "json") ∷ []))) }
 {
-    let about = "Prints what each shift of a history cleared, a line for each";
+    let about = "Prints what each shift of a history cleared, one line for each";
     let example = "Example: forecourt shifts history\n";
-    let json = "Prints an object of JSON a line, with what each till cleared";
+    let json = "Print one JSON object on each line, also with what each till cleared";
     let command = start(alloc, "shifts", about, example);
     let command = add_argument(command, history_folder(alloc))?;
     add_argument(command, flag(alloc, "json", json))
@@ -36,8 +36,8 @@ fn shifts<'a>(alloc: Global) -> Result<Command<'a>, AllocError>
 fn next<'a>(alloc: Global) -> Result<Command<'a>, AllocError>
     ensures { IfOk result (HasShape (command (codes "next") (folder_rule ∷ []))) }
 {
-    let about = "Prints the site file with which a new history goes on where this one ended, or \
-                 what hinders that";
+    let about = "Prints the site file with which a new history continues this one, or what has to \
+                 be settled first";
     let example = "Example: forecourt next history > site.toml\n";
     let command = start(alloc, "next", about, example);
     add_argument(command, history_folder(alloc))
@@ -49,7 +49,7 @@ fn verify<'a>(alloc: Global) -> Result<Command<'a>, AllocError>
 {
     let about = "Reads a whole history, and prints its last seal, or the first fault in it";
     let example = "Example: forecourt verify history\n";
-    let seal = "A seal that was noted earlier: also prints where it stands in the history";
+    let seal = "A seal that was noted earlier: also print where it is in the history";
     let command = start(alloc, "verify", about, example);
     let command = add_argument(command, history_folder(alloc))?;
     add_argument(command, option(alloc, "seal", "HEX", seal))

@@ -24,7 +24,7 @@ pub fn add_commands<'a>(alloc: Global, program: Command<'a>) -> Result<Command<'
 fn check<'a>(alloc: Global) -> Result<Command<'a>, AllocError>
     ensures { IfOk result (HasShape (command (codes "check") (site_file_rule ∷ []))) }
 {
-    let about = "Reads a site file, and tells its first fault or how large the site is";
+    let about = "Reads a site file, and prints its faults, or how large the site is";
     let example = "Example: forecourt check examples/five_points.toml\n";
     let command = start(alloc, "check", about, example);
     add_argument(command, site_file(alloc))
@@ -35,12 +35,12 @@ fn replay<'a>(alloc: Global) -> Result<Command<'a>, AllocError>
         (site_file_rule ∷ flag_rule (codes "changes") ∷ option_rule (codes "shift")
         ∷ flag_rule (codes "json") ∷ option_rule (codes "from") ∷ []))) }
 {
-    let about = "Answers the messages of standard input on the site of a file, or prints the \
-                 replies of a history";
+    let about = "Prints the replies to the messages on standard input, on the site of a file, or \
+                 the replies of a history";
     let example = "Example: forecourt replay examples/five_points.toml < examples/day.hex\n";
-    let changes = "Prints the changes that dispensers are told, too";
-    let json = "Prints each row of a history as an object of JSON, a line";
-    let from = "The first row of the history that is printed; rows count from 0";
+    let changes = "Also print the notices that are sent to dispensers";
+    let json = "Print each row of a history as one JSON object on a line";
+    let from = "The first row of the history that is printed (default: 0, the first row of all)";
     let command = start(alloc, "replay", about, example);
     let command = add_argument(command, site_or_history(alloc))?;
     let command = add_argument(command, flag(alloc, "changes", changes))?;
@@ -54,15 +54,15 @@ fn report<'a>(alloc: Global) -> Result<Command<'a>, AllocError>
         (site_file_rule ∷ flag_rule (codes "human") ∷ flag_rule (codes "json")
         ∷ option_rule (codes "shift") ∷ []))) }
 {
-    let about = "Prints the report of what standard input records on the site of a file, or of a \
-                 history";
+    let about = "Prints the report of the recorded messages on standard input, on the site of a \
+                 file, or of a history";
     let example = "Examples: forecourt report examples/five_points.toml < examples/day.hex; \
                    forecourt report history --shift 3 --human\n";
-    let human = "Prints litres and money in columns, for people";
+    let human = "Print litres and money in columns, for people";
     let command = start(alloc, "report", about, example);
     let command = add_argument(command, site_or_history(alloc))?;
     let command = add_argument(command, flag(alloc, "human", human))?;
-    let command = add_argument(command, flag(alloc, "json", "Prints one object of JSON"))?;
+    let command = add_argument(command, flag(alloc, "json", "Print one JSON object"))?;
     add_argument(command, shift(alloc))
 }
 
@@ -72,12 +72,12 @@ fn sales<'a>(alloc: Global) -> Result<Command<'a>, AllocError>
         ∷ option_rule (codes "shift") ∷ option_rule (codes "from") ∷ option_rule (codes "to")
         ∷ []))) }
 {
-    let about = "Prints the sales of what standard input records on the site of a file, or of a \
-                 history, as CSV";
+    let about = "Prints the sales in the recorded messages on standard input, on the site of a \
+                 file, or in a history, as CSV";
     let example = "Examples: forecourt sales examples/five_points.toml < examples/paying_day.hex; \
                    forecourt sales history --shift 3..5\n";
-    let draws = "Prints what tests drew, and not the sales";
-    let json = "Prints an object of JSON a line";
+    let draws = "Print the fuel drawn for tests instead of the sales";
+    let json = "Print one JSON object on each line";
     let command = start(alloc, "sales", about, example);
     let command = add_argument(command, site_or_history(alloc))?;
     let command = add_argument(command, flag(alloc, "draws", draws))?;
@@ -92,18 +92,19 @@ fn meters<'a>(alloc: Global) -> Result<Command<'a>, AllocError>
         (site_file_rule ∷ flag_rule (codes "gaps") ∷ flag_rule (codes "csv")
         ∷ flag_rule (codes "json") ∷ option_rule (codes "shift") ∷ []))) }
 {
-    let about = "Prints what was counted at each nozzle by what standard input records on the site \
-                 of a file, or by a history";
+    let about =
+        "Prints what each nozzle metered, in the recorded messages on standard input, on the \
+                 site of a file, or in a history";
     let example = "Examples: forecourt meters examples/five_points.toml < examples/day.hex; \
                    forecourt meters history --shift 3 --gaps\n";
-    let gaps = "Prints the replaced meters and the refused readings, and not the nozzles";
+    let gaps = "Print the replaced meters and the refused readings instead of the nozzles";
     let command = start(alloc, "meters", about, example);
     let command = add_argument(command, site_or_history(alloc))?;
     let command = add_argument(command, flag(alloc, "gaps", gaps))?;
-    let command = add_argument(command, flag(alloc, "csv", "Prints comma-separated values"))?;
+    let command = add_argument(command, flag(alloc, "csv", "Print comma-separated values"))?;
     let command = add_argument(
         command,
-        flag(alloc, "json", "Prints an object of JSON a line"),
+        flag(alloc, "json", "Print one JSON object on each line"),
     )?;
     add_argument(command, shift(alloc))
 }

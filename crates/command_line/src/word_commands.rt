@@ -28,7 +28,7 @@ fn explain<'a>(alloc: Global) -> Result<Command<'a>, AllocError>
                  what a number means";
     let example = "Examples: forecourt explain < examples/day.hex; forecourt explain history; \
                    forecourt explain 20\n";
-    let times = "Prints the time of each row of the history ahead of it";
+    let times = "Print the time of each row of the history before the row";
     let command = start(alloc, "explain", about, example);
     let command = add_argument(command, what(alloc))?;
     let command = add_argument(command, shift(alloc))?;
@@ -38,7 +38,7 @@ fn explain<'a>(alloc: Global) -> Result<Command<'a>, AllocError>
 fn spell<'a>(alloc: Global) -> Command<'a>
     ensures { HasShape (command (codes "spell") []) result }
 {
-    let about = "Prints the requests that standard input asks for in words, in hexadecimal";
+    let about = "Prints the requests that standard input has in words, as messages in hexadecimal";
     let example = "Example: forecourt spell < examples/paying_day.words\n";
     start(alloc, "spell", about, example)
 }
@@ -48,12 +48,12 @@ fn ask<'a>(alloc: Global) -> Result<Command<'a>, AllocError>
         (option_rule (codes "port") ∷ option_rule (codes "door") ∷ flag_rule (codes "strict")
         ∷ []))) }
 {
-    let about = "Asks a station that runs for the requests that standard input says in words, and \
+    let about = "Sends the requests that standard input has in words to a running station, and \
                  prints its replies";
     let example = "Example: echo 't1 SignOn' | forecourt ask --port 4001\n";
-    let port = "The port of 127.0.0.1 on which the station listens";
+    let port = "The port on 127.0.0.1 on which the station listens, 1 to 65535";
     let door = "The door of the till or dispenser that asks: its socket, or its folder";
-    let strict = "Ends with the first refusal, with status 1";
+    let strict = "End at the first refusal, with status 1";
     let command = start(alloc, "ask", about, example);
     let command = add_argument(command, option(alloc, "port", "N", port))?;
     let command = add_argument(command, option(alloc, "door", "PATH", door))?;

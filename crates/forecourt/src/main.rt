@@ -43,7 +43,10 @@ fn main(rt: HostRuntime) -> ExitCode {
     };
     match parse(rt.alloc(), &words) {
         Ok(command) => run(&rt, &rt, command),
-        Err(ending) => exit_without_command(&rt, &ending),
+        Err(ending) => {
+            let quiet = QuietHost::new(&rt);
+            quiet.end(exit_without_command(&quiet, &rt, &ending))
+        }
     }
 }
 
@@ -122,15 +125,19 @@ fn find_folder<'a>(rt: &HostRuntime, options: ExplainOptions<'a>) -> Option<&'a 
 
 /// Prints what the words ask for in place of a command: help, or the version and what this program
 /// was made of, on standard output, with status 0; a mistake on standard error, with status 2.
-fn exit_without_command(rt: &HostRuntime, ending: &NoCommand) -> ExitCode {
+fn exit_without_command(
+    host: &(impl Print + Eprint),
+    rt: &HostRuntime,
+    ending: &NoCommand,
+) -> ExitCode {
     match ending {
-        NoCommand::NoMemory => exit_no_memory(rt),
-        NoCommand::Mistake(text) => exit_with(eprint!(rt; "{text}"), COMMAND_LINE),
+        NoCommand::NoMemory => exit_no_memory(host),
+        NoCommand::Mistake(text) => exit_with(eprint!(host; "{text}"), COMMAND_LINE),
         NoCommand::Help(text) if is_version(text) => match build_lines(rt) {
-            Ok(lines) => print_help(rt, text, &lines),
-            Err(_) => exit_no_memory(rt),
+            Ok(lines) => print_help(host, text, &lines),
+            Err(_) => exit_no_memory(host),
         },
-        NoCommand::Help(text) => print_help(rt, text, ""),
+        NoCommand::Help(text) => print_help(host, text, ""),
     }
 }
 
@@ -140,9 +147,9 @@ fn is_version(text: &str) -> bool {
 }
 
 /// Prints a text that was asked for, and these lines behind it.
-fn print_help(rt: &HostRuntime, text: &str, lines: &str) -> ExitCode {
-    match print!(rt; "{text}{lines}") {
+fn print_help(host: &(impl Print + Eprint), text: &str, lines: &str) -> ExitCode {
+    match print!(host; "{text}{lines}") {
         Ok(()) => ExitCode::SUCCESS,
-        Err(_) => exit_unwritten(rt),
+        Err(_) => exit_unwritten(host),
     }
 }
