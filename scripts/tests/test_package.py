@@ -16,7 +16,7 @@ import sys
 import urllib.request
 
 from shared import manuals
-from shared.checks import Skipped, expect
+from shared.checks import Skipped, expect, unstored
 from shared.running import EXAMPLES, SCRIPTS, TOP, run
 from shared.serving import WAIT
 from tests.built import PROGRAM
@@ -117,7 +117,7 @@ def the_same_sources_make_the_same_package():
 def it_is_installed_and_removed():
     """Installed into a root of its own, each file is in its place, the user of stations is there,
     and the program runs. Removed, nothing is left but a history, not even what Python left beside
-    the examples, and a line says so."""
+    the examples, or `systemctl enable` and `systemctl edit` of a unit, and a line says so."""
     root = make_root("root")
     ask_dpkg(root, "-i", the_package())
     expect("missing files", wanted_files() - set(files_of(root)), set())
@@ -131,8 +131,16 @@ def it_is_installed_and_removed():
     compiled = root / DOCUMENTS / "examples/__pycache__/talk.pyc"
     compiled.parent.mkdir()
     compiled.touch()
+    units = root / "etc/systemd/system"
+    enabled = units / "multi-user.target.wants/forecourt@north.service"
+    edited = units / "forecourt@north.service.d/override.conf"
+    for path in (enabled, edited):
+        path.parent.mkdir(parents=True)
+    enabled.symlink_to("/usr/lib/systemd/system/forecourt@.service")
+    edited.write_text("[Unit]\nRequiresMountsFor=/var/lib/forecourt\n")
     purged = ask_dpkg(root, "-P", "forecourt").out.decode()
     expect("left", files_of(root), ["var/lib/forecourt/north/history/chapter-000001"])
+    expect("the unit of a station", [enabled.is_symlink(), edited.parent.exists()], [False, False])
     expect("the examples' folder", compiled.parent.parent.exists(), False)
     told = [line for line in purged.splitlines() if "/var/lib/forecourt" in line]
     expect("what stays", len(told), 1)
@@ -293,7 +301,8 @@ def a_full_file_is_a_fault():
             if station.poll() is not None:
                 break
             run(PROGRAM, "ask", "--door", door, given=b"t1 SignOn\nt1 SignOff\n" * 20)
-        expect("the end", (station.wait(WAIT), station.stderr.read()), (1, b"fault 62\n"))
+        fault = f"{unstored('history')}\n".encode()
+        expect("the end", (station.wait(WAIT), station.stderr.read()), (1, fault))
 
 
 def trace_start(folder):
