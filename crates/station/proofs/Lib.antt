@@ -8,6 +8,7 @@ pub mod Turns
 pub mod Stories
 pub mod Quiet
 pub mod Lives
+pub mod Marks
 pub mod Courses
 pub mod SlotSessions
 pub mod Answering

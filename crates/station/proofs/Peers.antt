@@ -1,6 +1,6 @@
 -- The peers of a station as a list.
 use Rattle.std.proofs.Common.{◌≡◌, ◌≢◌, ℕ, zero, suc, ◌==◌, Bool, true, false, List, []}
-use Rattle.std.proofs.Common.{◌∷◌, map, Option, None, refl, ap, sym, subst, ◌∙◌}
+use Rattle.std.proofs.Common.{◌∷◌, ◌<◌, map, length, Option, None, refl, ap, arith, sym, subst, ◌∙◌}
 use Rattle.std.proofs.lemmas.Bool.{eq-eqb}
 use Rattle.device_map.proofs.Results.{equal}
 use Rattle.station.specs.Peers.{peer_at, with_peer}
@@ -65,3 +65,14 @@ pub peer_at-map : (f : Option Session → Option Session) (k : ℕ) (peers : Lis
 peer_at-map f k [] none = sym none
 peer_at-map f zero (p ∷ peers) none = refl
 peer_at-map f (suc k) (p ∷ peers) none = peer_at-map f k peers none
+
+pub slots_size : (k : ℕ) (x : Option Session) (peers : List (Option Session)) → k < length peers
+    → length (with_peer k x peers) ≡ length peers
+slots_size k x [] within = absurd (omega (arith, within))
+slots_size zero x (p ∷ peers) within = refl
+slots_size (suc k) x (p ∷ peers) within = ap suc (slots_size k x peers (omega (arith, within)))
+
+pub map_size : (f : Option Session → Option Session) (peers : List (Option Session))
+    → length (map f peers) ≡ length peers
+map_size f [] = refl
+map_size f (p ∷ peers) = ap suc (map_size f peers)

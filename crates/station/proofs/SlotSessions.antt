@@ -1,11 +1,9 @@
 -- The slots as sessions.
 use Rattle.std.proofs.Common.{◌≡◌, ℕ, zero, suc, ◌<◌, ◌≤◌, Bool, true, false, List, [], ◌∷◌}
 use Rattle.std.proofs.Common.{◌++◌, length, get_or, drop}
-use Rattle.std.proofs.Common.{Option, Some, None, Global, Vec, refl, ap, sym, ◌∙◌, arith}
-use Rattle.std.specs.Prelude.{if◌then◌else◌, is_none, option_map}
+use Rattle.std.proofs.Common.{Option, Some, None, refl, ap, sym, ◌∙◌, arith}
+use Rattle.std.specs.Prelude.{if◌then◌else◌, is_none, option_map, IsSome}
 use Rattle.std.proofs.Math.ListN.{set}
-use Rattle.std.specs.Vec.{with_items}
-use Rattle.std.proofs.lemmas.List.{with_items_is}
 use Rattle.station.specs.declared.peer.Peer.{Peer}
 use Rattle.station.specs.Peers.{peer_at, with_notices, with_peer}
 use Rattle.station.specs.PeerViews.{session_of, sessions_of, without_key}
@@ -17,9 +15,8 @@ use Rattle.station.specs.Gates.{GateState, admission}
 use Rattle.station.specs.Moves.{StationState, admits_at, finish_at, hear_from, rows_since, take_by}
 use Rattle.station.specs.Moves.{with_end, with_octets, with_taken, with_turn}
 use Rattle.station.specs.Peers.{tell_rows}
-use Rattle.station.specs.Reads.{owed_to}
 use Rattle.station.proofs.Turns.{told_none}
-use Rattle.station.proofs.Peers.{map-with_peer, with_peer-twice}
+use Rattle.station.proofs.Peers.{map_size, map-with_peer, slots_size, with_peer-twice}
 
 -- the slot at a place, with any default
 pub session_found : (k : ℕ) (slots : List (Option Peer)) (d : Option Peer) → k < length slots
@@ -35,14 +32,12 @@ nobody_there k [] beyond = refl
 nobody_there zero (p ∷ slots) beyond = absurd (omega arith)
 nobody_there (suc k) (p ∷ slots) beyond = nobody_there k slots (omega arith)
 
--- nobody is owed octets where nobody is
-pub unowed_beyond : (k : ℕ) (slots : List (Option Peer))
-    → (k < length slots → owed_to (peer_at (sessions_of slots) k) ≡ [])
-    → owed_to (peer_at (sessions_of slots) k) ≡ []
-unowed_beyond k [] within = refl
-unowed_beyond zero (p ∷ slots) within = within (omega arith)
-unowed_beyond (suc k) (p ∷ slots) within =
-    unowed_beyond k slots (λ less. within (omega arith))
+-- .. in a list of sessions
+pub nobody_beyond : (k : ℕ) (peers : List (Option Session)) → length peers ≤ k
+    → peer_at peers k ≡ None
+nobody_beyond k [] beyond = refl
+nobody_beyond zero (p ∷ peers) beyond = absurd (omega (arith, beyond))
+nobody_beyond (suc k) (p ∷ peers) beyond = nobody_beyond k peers (omega (arith, beyond))
 
 pub sessions_set : (k : ℕ) (slots : List (Option Peer)) (y : Option Peer) → k < length slots
     → sessions_of (set slots k y) ≡ with_peer k (option_map session_of y) (sessions_of slots)
@@ -78,6 +73,13 @@ alike_next (suc k) x [] few = refl
 alike_next zero x (q ∷ slots) few = absurd (omega arith)
 alike_next (suc k) x (q ∷ slots) few =
     ap (λ ps. option_map session_of q ∷ ps) (alike_next k x slots (omega arith))
+
+pub same_next : (k : ℕ) (slots : List (Option Peer))
+    → peer_at (sessions_of (slots ++ None ∷ [])) k ≡ peer_at (sessions_of slots) k
+same_next zero [] = refl
+same_next (suc k) [] = refl
+same_next zero (q ∷ slots) = refl
+same_next (suc k) (q ∷ slots) = same_next k slots
 
 -- a peer that was taken out, and put back when the others were told
 pub put_back : (k : ℕ) (x : Option Session) (rows : List Row) (peers : List (Option Session))
@@ -131,29 +133,19 @@ put_told k x p b b' peers out told back taken tell put =
     ∙ ap (with_peer k (Some x)) (tell ∙ ap (with_notices (rows_since b b')) taken)
     ∙ put_back k (Some x) (rows_since b b') peers
 
--- A peer is taken out of lent slots, and another one is put into its slot, where they are lent
--- again.
-pub record IsPutBack (k : ℕ) (slots : Vec (Option Peer) Global) (taken put : List (Option Peer))
-    (p : Peer) (x : Session) : Type 0 where
-  pub there : Some (session_of p) ≡ peer_at (sessions_of slots.items) k
-  pub out : sessions_of taken ≡ without_key k (Some p) (sessions_of slots.items)
-  pub back : sessions_of put ≡ with_peer k (Some x) (sessions_of taken)
-  pub items : (with_items (with_items slots taken) put).items ≡ put
+-- as many slots, where one is emptied
+pub without_size : (k : ℕ) (r : Option Peer) (peers : List (Option Session))
+    → (IsSome r → k < length peers) → length (without_key k r peers) ≡ length peers
+without_size k None peers within = refl
+without_size k (Some p) peers within = slots_size k None peers (within refl)
 
-pub moved_back : (k : ℕ) (slots : Vec (Option Peer) Global)
-    (lent taken again put : List (Option Peer)) (p : Peer) (x : Session)
-    → lent ≡ slots.items → length lent ≡ slots.len → length taken ≡ length lent
-    → again ≡ (with_items slots taken).items → length again ≡ slots.len
-    → length put ≡ length again → Some (session_of p) ≡ peer_at (sessions_of lent) k
-    → sessions_of taken ≡ without_key k (Some p) (sessions_of lent)
-    → sessions_of put ≡ with_peer k (Some x) (sessions_of again)
-    → IsPutBack k slots taken put p x
-moved_back k slots _ taken _ put p x first one kept later two placed there out back = record {
-  there = rw first at there;
-  out = rw first at out;
-  back = rw (later ∙ with_items_is slots taken (kept ∙ one)) at back;
-  items = with_items_is (with_items slots taken) put (placed ∙ two);
-}
+-- as many slots, where one is emptied and the others are told
+pub told_size : (k : ℕ) (p : Peer) (rows : List Row) (peers out told : List (Option Session))
+    → k < length peers → out ≡ without_key k (Some p) peers → told ≡ with_notices rows out
+    → length told ≡ length peers
+told_size k p rows peers out told within taken tell =
+    ap length tell ∙ map_size (option_map (tell_rows rows)) out ∙ ap length taken
+    ∙ slots_size k None peers within
 
 pub took : (k n : ℕ) (g : GateState) (b : Book) (peers out back : List (Option Session))
     (p : Peer) (x : Session)

@@ -1,5 +1,6 @@
 pub mod Papers
 pub mod Listening
+pub mod Marks
 pub mod Gates
 pub mod PeerViews
 pub mod Standing

@@ -8,10 +8,9 @@ ghost use Rattle.peer_talk.specs.Exchanges.{change_by as sign_change_by, row_mad
 ghost use Rattle.station.specs.Papers.{IsChangeTo};
 ghost use Rattle.station.specs.declared.sizes.TheConstants.{NOTICE_OCTETS};
 ghost use Rattle.station.specs.Peers.{till_off, with_notices};
-ghost use Rattle.station.specs.PeerViews.{session_of, sessions_of, slot_forgotten, slot_noticed};
 
 use crate::paper::Paper;
-use crate::peer::Peer;
+use crate::slots::Slots;
 use conversation::{Asks, ask, fill};
 use site_base::{Actor, Event, FpNo, NoRow, Reply, Row, SignChange, TillNo, sign_change};
 use site_book::SiteBook;
@@ -20,7 +19,7 @@ use site_book::SiteBook;
 #[derive(Drop)]
 pub(crate) struct AtStation<'a> {
     pub(crate) book: &'a mut SiteBook,
-    pub(crate) others: &'a mut [Option<Peer>],
+    pub(crate) others: &'a mut Slots,
     pub(crate) paper: &'a mut Paper,
 }
 
@@ -28,12 +27,11 @@ impl<'a> Asks for AtStation<'a> {
     ghost use Rattle.std.specs.Prelude.{ℕ};
     ghost use Rattle.conversation.specs.Lending.{Lent};
     ghost use Rattle.station.specs.Hearing.{Among, IsAskedAmong, among};
-    ghost use Rattle.station.specs.PeerViews.{sessions_of};
 
     ghost Seen = { Among × (ℕ × ℕ) };
 
     ghost seen = { λ l. (
-      among l.book.now (sessions_of l.others.now),
+      among l.book.now l.others.now,
       (l.book.ghost_name, l.others.ghost_name),
     ) };
 
@@ -49,14 +47,14 @@ impl<'a> Asks for AtStation<'a> {
 /// point is told it. The change is written first: without memory for that there is no row.
 pub(crate) fn ask_among(
     book: &mut SiteBook,
-    others: &mut [Option<Peer>],
+    others: &mut Slots,
     paper: &mut Paper,
     actor: Actor,
     event: Event,
 ) -> Result<Reply, NoRow>
     ensures asked { IsAskedOf book.old actor event result book.new }
-    ensures others { sessions_of others.new
-        ≡ with_notices (row_made actor event result) (sessions_of others.old) }
+    ensures others { others.new
+        ≡ with_notices (row_made actor event result) others.old }
 {
     match event.point() {
         None => ask_pointless(book, others, actor, event),
@@ -68,14 +66,14 @@ pub(crate) fn ask_among(
 /// off forget that.
 fn ask_pointless(
     book: &mut SiteBook,
-    others: &mut [Option<Peer>],
+    others: &mut Slots,
     actor: Actor,
     event: Event,
 ) -> Result<Reply, NoRow>
     requires pointless { point_named event ≡ None }
     ensures asked { IsAskedOf book.old actor event result book.new }
-    ensures others { sessions_of others.new
-        ≡ with_notices (row_made actor event result) (sessions_of others.old) }
+    ensures others { others.new
+        ≡ with_notices (row_made actor event result) others.old }
 {
     let outcome = ask(book, actor, event);
     forget_signed_off(others, &actor, &event, &outcome);
@@ -85,17 +83,17 @@ fn ask_pointless(
 /// The sessions that had signed on a till that a request at no point signs off, if it does, forget
 /// that.
 fn forget_signed_off(
-    others: &mut [Option<Peer>],
+    others: &mut Slots,
     actor: &Actor,
     event: &Event,
     outcome: &Result<Reply, NoRow>,
 )
     requires pointless { point_named event.now ≡ None }
-    ensures { sessions_of others.new
-        ≡ with_notices (row_made actor.now event.now outcome.now) (sessions_of others.old) }
+    ensures { others.new
+        ≡ with_notices (row_made actor.now event.now outcome.now) others.old }
 {
     if let Some(till) = till_off(actor, event, outcome) {
-        forget_till(others, till);
+        others.forget_till(till);
     }
 }
 
@@ -110,29 +108,10 @@ fn till_off(actor: &Actor, event: &Event, outcome: &Result<Reply, NoRow>) -> Opt
     }
 }
 
-/// The sessions that had signed this till on forget that.
-pub(crate) fn forget_till(slots: &mut [Option<Peer>], till: TillNo)
-    ensures { sessions_of slots.new ≡ map (slot_forgotten till) (sessions_of slots.old) }
-{
-    for i in 0..slots.len() {
-        forget_at(&mut slots[i], till);
-    }
-}
-
-/// A session forgets that it had signed this till on, if it had.
-fn forget_at(slot: &mut Option<Peer>, till: TillNo)
-    ensures { option_map session_of slot.new
-        ≡ slot_forgotten till (option_map session_of slot.old) }
-{
-    if let Some(peer) = slot {
-        peer.forget_till(till);
-    }
-}
-
 /// Asks the book for a request at a point.
 fn ask_at(
     book: &mut SiteBook,
-    others: &mut [Option<Peer>],
+    others: &mut Slots,
     paper: &mut Paper,
     actor: &Actor,
     event: &Event,
@@ -140,8 +119,8 @@ fn ask_at(
 ) -> Result<Reply, NoRow>
     requires point { point_named event.now ≡ Some p }
     ensures asked { IsAskedOf book.old actor.now event.now result book.new }
-    ensures others { sessions_of others.new
-        ≡ with_notices (row_made actor.now event.now result) (sessions_of others.old) }
+    ensures others { others.new
+        ≡ with_notices (row_made actor.now event.now result) others.old }
 {
     match paper.write_change(p, *event)? {
         None => ask(book, *actor, *event),
@@ -152,7 +131,7 @@ fn ask_at(
 /// Asks the book for a request whose row, if it is accepted, has this notice, to this node.
 fn ask_telling(
     book: &mut SiteBook,
-    others: &mut [Option<Peer>],
+    others: &mut Slots,
     node: &[u8; 2],
     notice: &[u8],
     actor: Actor,
@@ -161,8 +140,8 @@ fn ask_telling(
     requires change { IsChangeTo (change_by event) (Some node.now) notice.now }
     requires short { length notice.now ≤ NOTICE_OCTETS }
     ensures asked { IsAskedOf book.old actor event result book.new }
-    ensures others { sessions_of others.new
-        ≡ with_notices (row_made actor event result) (sessions_of others.old) }
+    ensures others { others.new
+        ≡ with_notices (row_made actor event result) others.old }
 {
     let outcome = ask(book, actor, event);
     notice_accepted(others, *node, notice, &actor, &event, &outcome);
@@ -171,7 +150,7 @@ fn ask_telling(
 
 /// Tells a notice to each peer that listens at this node, where the request was accepted.
 fn notice_accepted(
-    others: &mut [Option<Peer>],
+    others: &mut Slots,
     node: [u8; 2],
     notice: &[u8],
     actor: &Actor,
@@ -180,37 +159,14 @@ fn notice_accepted(
 )
     requires change { IsChangeTo (change_by event.now) (Some node) notice.now }
     requires short { length notice.now ≤ NOTICE_OCTETS }
-    ensures { sessions_of others.new
-        ≡ with_notices (row_made actor.now event.now outcome.now) (sessions_of others.old) }
+    ensures { others.new
+        ≡ with_notices (row_made actor.now event.now outcome.now) others.old }
 {
     match outcome {
         Ok(reply) => match reply {
-            Ok(_) => notice_all(others, node, notice),
+            Ok(_) => others.notice_all(node, notice),
             Err(_) => {}
         },
         Err(_) => {}
-    }
-}
-
-/// Tells a notice to each peer that listens at this node.
-fn notice_all(slots: &mut [Option<Peer>], node: [u8; 2], notice: &[u8])
-    requires { length notice.now ≤ NOTICE_OCTETS }
-    ensures { sessions_of slots.new ≡ map (slot_noticed node notice.now) (sessions_of slots.old) }
-{
-    for i in 0..slots.len() {
-        notice_at(&mut slots[i], node, notice);
-    }
-}
-
-/// Tells a notice to a peer, if it listens at this node.
-fn notice_at(slot: &mut Option<Peer>, node: [u8; 2], notice: &[u8])
-    requires { length notice.now ≤ NOTICE_OCTETS }
-    ensures { option_map session_of slot.new
-        ≡ slot_noticed node notice.now (option_map session_of slot.old) }
-{
-    if let Some(peer) = slot {
-        if peer.listens_at(node) {
-            peer.notice(notice);
-        }
     }
 }

@@ -6,11 +6,12 @@ ghost use Rattle.station.specs.declared.sizes.TheConstants.{DOORS};
 ghost use Rattle.station.specs.Gates.{admission, admission_at, count_at, has_door, is_house};
 ghost use Rattle.station.specs.Gates.{is_session_at, open_gates, with_door};
 ghost use Rattle.station.specs.Listening.{is_at};
-ghost use Rattle.station.specs.PeerViews.{session_of, sessions_of};
+ghost use Rattle.station.specs.PeerViews.{session_of};
 
 use crate::paper::is_same_node;
 use crate::peer::Peer;
 use crate::sizes::{DOORS, NODE_SESSIONS};
+use crate::slots::Slots;
 use site_base::{NoMemory, TillNo};
 use std::alloc::Global;
 use std::marker::Model;
@@ -109,13 +110,8 @@ impl Gates {
     }
 
     /// Whether a session of this door, or of none, is opened by this originator beside these.
-    pub(crate) fn admit(
-        &self,
-        others: &[Option<Peer>],
-        door: Option<[u8; 2]>,
-        from: [u8; 2],
-    ) -> Admission
-        ensures { result ≡ admission self.now (sessions_of others.now) door from }
+    pub(crate) fn admit(&self, others: &Slots, door: Option<[u8; 2]>, from: [u8; 2]) -> Admission
+        ensures { result ≡ admission self.now others.now door from }
     {
         if self.is_house(from) {
             return Admission::Barred;
@@ -147,8 +143,8 @@ impl Gates {
 }
 
 /// Whether one more session of a node is opened beside these.
-fn admit_beside(others: &[Option<Peer>], node: [u8; 2]) -> Admission
-    ensures { result ≡ admission_at (count_at node (sessions_of others.now)) }
+fn admit_beside(others: &Slots, node: [u8; 2]) -> Admission
+    ensures { result ≡ admission_at (count_at node others.now) }
 {
     if count_sessions(others, node) < NODE_SESSIONS {
         Admission::Welcome
@@ -158,10 +154,11 @@ fn admit_beside(others: &[Option<Peer>], node: [u8; 2]) -> Admission
 }
 
 /// How many sessions of a node last.
-pub(crate) fn count_sessions(slots: &[Option<Peer>], node: [u8; 2]) -> usize
-    ensures { result ≡ count_at node (sessions_of slots.now) }
+pub(crate) fn count_sessions(slots: &Slots, node: [u8; 2]) -> usize
+    ensures { result ≡ count_at node slots.now }
 {
     slots
+        .as_slice()
         .iter()
         .filter(|slot| is_session_of(slot, node))
         .count()

@@ -11,15 +11,16 @@ ghost use Rattle.station.specs.Gates.{admission};
 ghost use Rattle.station.specs.Hearing.{Admits, Answers, AnswersAll, AreTold, Hears};
 ghost use Rattle.station.specs.Hearing.{IsAskedAmong, among};
 ghost use Rattle.station.specs.Hearing.{end_behind, finish_if, turn_of};
-ghost use Rattle.station.specs.PeerViews.{session_of, sessions_of};
+ghost use Rattle.station.specs.PeerViews.{session_of};
 ghost use Rattle.station.specs.Sessions.{end_session, finish, opening_text, refuse_by};
 ghost use Rattle.station.specs.Sessions.{tell_last, without_till};
 
-use crate::asking::{AtStation, forget_till};
+use crate::asking::AtStation;
 use crate::gates::{Admission, Gates};
 use crate::paper::Paper;
 use crate::peer::Peer;
 use crate::peer_end::PeerEnd;
+use crate::slots::Slots;
 use app_message::{Message, Messages, StreamFault};
 use conversation::Said;
 use peer_talk::TalkFault;
@@ -31,16 +32,16 @@ use site_book::SiteBook;
 pub(crate) fn hear(
     peer: &mut Peer,
     book: &mut SiteBook,
-    others: &mut [Option<Peer>],
+    others: &mut Slots,
     paper: &mut Paper,
     messages: &mut Messages,
     gates: &Gates,
     piece: &[u8],
 )
     requires { peer.old.end ≡ None }
-    ensures { Hears (admission gates.now (sessions_of others.old) peer.old.door) piece.now
-        (turn_of book.old peer.old) (turn_of book.new peer.new) (sessions_of others.old)
-        (sessions_of others.new) }
+    ensures { Hears (admission gates.now others.old peer.old.door) piece.now
+        (turn_of book.old peer.old) (turn_of book.new peer.new) others.old
+        others.new }
 {
     match peer.decoder.feed_into(piece, messages) {
         Err(_) => end_session(peer, book, others, PeerEnd::NoMemory),
@@ -58,14 +59,14 @@ pub(crate) fn hear(
 fn admit(
     peer: &mut Peer,
     book: &mut SiteBook,
-    others: &mut [Option<Peer>],
+    others: &mut Slots,
     paper: &mut Paper,
     gates: &Gates,
     messages: &[Message],
 )
-    ensures { Admits (admission gates.now (sessions_of others.old) peer.old.door) messages.now
-        (turn_of book.old peer.old) (turn_of book.new peer.new) (sessions_of others.old)
-        (sessions_of others.new) }
+    ensures { Admits (admission gates.now others.old peer.old.door) messages.now
+        (turn_of book.old peer.old) (turn_of book.new peer.new) others.old
+        others.new }
 {
     match messages {
         [] => {}
@@ -83,17 +84,11 @@ fn admit(
 }
 
 /// The originator of a first message may not speak there: it is told so, and the session ends.
-fn bar(
-    peer: &mut Peer,
-    book: &mut SiteBook,
-    others: &mut [Option<Peer>],
-    paper: &mut Paper,
-    first: &Message,
-)
+fn bar(peer: &mut Peer, book: &mut SiteBook, others: &mut Slots, paper: &mut Paper, first: &Message)
     ensures turn { (memory : Bool) × (turn_of book.new peer.new ≡ tell_last memory
         (number_text first.now ORIGINATOR_CHANGED) (PeerEnd.Barred first.now.from)
         (turn_of book.old peer.old)) }
-    ensures told { AreTold book.old book.new (sessions_of others.old) (sessions_of others.new) }
+    ensures told { AreTold book.old book.new others.old others.new }
 {
     let end = match tell_another(peer, paper, first) {
         Ok(()) => PeerEnd::Barred(first.from()),
@@ -117,12 +112,12 @@ fn tell_another(peer: &mut Peer, paper: &mut Paper, message: &Message) -> Result
 fn answer_all(
     peer: &mut Peer,
     book: &mut SiteBook,
-    others: &mut [Option<Peer>],
+    others: &mut Slots,
     paper: &mut Paper,
     messages: &[Message],
 )
     ensures { AnswersAll messages.now (turn_of book.old peer.old) (turn_of book.new peer.new)
-        (sessions_of others.old) (sessions_of others.new) }
+        others.old others.new }
 {
     for message in messages {
         if peer.lasts() {
@@ -136,13 +131,13 @@ fn answer_all(
 fn answer(
     peer: &mut Peer,
     book: &mut SiteBook,
-    others: &mut [Option<Peer>],
+    others: &mut Slots,
     paper: &mut Paper,
     message: &Message,
 )
     requires { peer.old.end ≡ None }
     ensures { Answers message.now (turn_of book.old peer.old) (turn_of book.new peer.new)
-        (sessions_of others.old) (sessions_of others.new) }
+        others.old others.new }
 {
     let before = peer.talk.peer();
     let said = &hear_message(peer, book, others, paper, message);
@@ -157,7 +152,7 @@ fn answer(
 fn hear_message(
     peer: &mut Peer,
     book: &mut SiteBook,
-    others: &mut [Option<Peer>],
+    others: &mut Slots,
     paper: &mut Paper,
     message: &Message,
 ) -> Said
@@ -165,8 +160,8 @@ fn hear_message(
     ensures talk { session_of peer.new ≡ record (session_of peer.old) {
       talk = talk_after message.now.from result peer.old.talk;
     } }
-    ensures asked { IsAskedFor IsAskedAmong (among book.old (sessions_of others.old)) result
-        (among book.new (sessions_of others.new)) }
+    ensures asked { IsAskedFor IsAskedAmong (among book.old others.old) result
+        (among book.new others.new) }
 {
     let mut asks = AtStation {
         book: &mut *book,
@@ -200,9 +195,9 @@ fn tell(
 }
 
 /// A session whose peer was told that another originator spoke ends with that.
-fn end_another(peer: &mut Peer, book: &mut SiteBook, others: &mut [Option<Peer>], said: &Said)
+fn end_another(peer: &mut Peer, book: &mut SiteBook, others: &mut Slots, said: &Said)
     ensures turn { turn_of book.new peer.new ≡ end_behind said.now (turn_of book.old peer.old) }
-    ensures told { AreTold book.old book.new (sessions_of others.old) (sessions_of others.new) }
+    ensures told { AreTold book.old book.new others.old others.new }
 {
     if let Said::Another = said {
         end_session(
@@ -218,13 +213,13 @@ fn end_another(peer: &mut Peer, book: &mut SiteBook, others: &mut [Option<Peer>]
 fn refuse(
     peer: &mut Peer,
     book: &mut SiteBook,
-    others: &mut [Option<Peer>],
+    others: &mut Slots,
     paper: &mut Paper,
     fault: &StreamFault,
 )
     ensures turn { (memory : Bool) × (turn_of book.new peer.new
         ≡ refuse_by memory (Some fault.now) (turn_of book.old peer.old)) }
-    ensures told { AreTold book.old book.new (sessions_of others.old) (sessions_of others.new) }
+    ensures told { AreTold book.old book.new others.old others.new }
 {
     if !peer.lasts() {
         return;
@@ -248,9 +243,9 @@ fn tell_fault(peer: &mut Peer, paper: &mut Paper, fault: &StreamFault) -> Result
 }
 
 /// The octets of a session have ended: it ends, inside a message or not, if it lasts.
-pub(crate) fn finish(peer: &mut Peer, book: &mut SiteBook, others: &mut [Option<Peer>])
+pub(crate) fn finish(peer: &mut Peer, book: &mut SiteBook, others: &mut Slots)
     ensures turn { turn_of book.new peer.new ≡ finish_if (turn_of book.old peer.old) }
-    ensures told { AreTold book.old book.new (sessions_of others.old) (sessions_of others.new) }
+    ensures told { AreTold book.old book.new others.old others.new }
 {
     if peer.lasts() {
         finish_lasting(peer, book, others);
@@ -258,9 +253,9 @@ pub(crate) fn finish(peer: &mut Peer, book: &mut SiteBook, others: &mut [Option<
 }
 
 /// The octets of a session that lasts have ended: it ends.
-fn finish_lasting(peer: &mut Peer, book: &mut SiteBook, others: &mut [Option<Peer>])
+fn finish_lasting(peer: &mut Peer, book: &mut SiteBook, others: &mut Slots)
     ensures turn { turn_of book.new peer.new ≡ finish (turn_of book.old peer.old) }
-    ensures told { AreTold book.old book.new (sessions_of others.old) (sessions_of others.new) }
+    ensures told { AreTold book.old book.new others.old others.new }
 {
     let end = if peer.decoder.held() > 0 {
         PeerEnd::Talk(TalkFault::Truncated)
@@ -271,9 +266,9 @@ fn finish_lasting(peer: &mut Peer, book: &mut SiteBook, others: &mut [Option<Pee
 }
 
 /// A session ends so, and the till that it signed on and didn't sign off is signed off.
-fn end_session(peer: &mut Peer, book: &mut SiteBook, others: &mut [Option<Peer>], end: PeerEnd)
+fn end_session(peer: &mut Peer, book: &mut SiteBook, others: &mut Slots, end: PeerEnd)
     ensures turn { turn_of book.new peer.new ≡ end_session end (turn_of book.old peer.old) }
-    ensures told { AreTold book.old book.new (sessions_of others.old) (sessions_of others.new) }
+    ensures told { AreTold book.old book.new others.old others.new }
 {
     peer.end = Some(end);
     if let Some(till) = peer.talk.till() {
@@ -283,11 +278,11 @@ fn end_session(peer: &mut Peer, book: &mut SiteBook, others: &mut [Option<Peer>]
 
 /// A till is signed off, where it is signed on, and those of these that had signed it on forget
 /// that.
-pub(crate) fn sign_off(book: &mut SiteBook, others: &mut [Option<Peer>], till: TillNo)
+pub(crate) fn sign_off(book: &mut SiteBook, others: &mut Slots, till: TillNo)
     ensures book { book.new ≡ without_till (Some till) book.old }
-    ensures told { AreTold book.old book.new (sessions_of others.old) (sessions_of others.new) }
+    ensures told { AreTold book.old book.new others.old others.new }
 {
     if book.sign_off(till).is_some() {
-        forget_till(others, till);
+        others.forget_till(till);
     }
 }

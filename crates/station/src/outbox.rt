@@ -10,7 +10,7 @@ use std::alloc::Global;
 use std::marker::Model;
 
 /// The octets that a peer hasn't taken yet. If they are few enough for a notice, there is memory
-/// for it already.
+/// for it already. It keeps no more octets that were taken than octets that weren't.
 #[derive(Drop)]
 pub struct Outbox {
     octets: Vec<u8>,
@@ -26,7 +26,7 @@ impl Model for Outbox {
 
     ghost view = { λ o. drop o.start o.octets.items };
 
-    ghost invariant = { λ o. (o.start ≤ length o.octets.items)
+    ghost invariant = { λ o. (o.start + o.start ≤ length o.octets.items)
         × (NOTICE_LIMIT + NOTICE_OCTETS ≤ vec_capacity o.octets) };
 }
 
@@ -59,11 +59,18 @@ impl Outbox {
     pub fn take(&mut self, n: usize)
         ensures { self.new ≡ drop n self.old }
     {
-        if n < self.len() {
-            self.start += n;
-        } else {
+        if n >= self.len() {
             self.octets.clear();
             self.start = 0;
+            return;
+        }
+        // Octets that were taken make way once they are the greater part.
+        let taken = self.start + n;
+        if taken > self.octets.len() - taken {
+            drop_front(&mut self.octets, taken);
+            self.start = 0;
+        } else {
+            self.start = taken;
         }
     }
 
@@ -87,11 +94,6 @@ impl Outbox {
         ensures ok { OnOk result (self.new ≡ self.old ++ octets.now) }
         ensures err { OnErr result (self.new ≡ self.old) }
     {
-        // Octets that were taken make way once they are the greater part.
-        if self.start > self.len() {
-            drop_front(&mut self.octets, self.start);
-            self.start = 0;
-        }
         self.octets.extend_from_slice(octets)?;
         Ok(())
     }

@@ -28,8 +28,12 @@ impl fmt::Display for PeerEnd {
             PeerEnd::Talk(fault) => write!(f, "fault {}: {fault}", fault.number()),
             PeerEnd::NoMemory => write!(f, "fault 31: out of memory"),
             PeerEnd::Behind => write!(f, "the peer doesn't read what it is sent"),
-            PeerEnd::Barred(_) => write!(f, "it may not speak there"),
-            PeerEnd::Crowded(_) => write!(f, "it has {NODE_SESSIONS} sessions"),
+            PeerEnd::Barred(_) => write!(
+                f,
+                "it may not speak there: a node that has a door uses it, any other the port, and \
+                 nobody speaks as the house till"
+            ),
+            PeerEnd::Crowded(_) => write!(f, "it has {NODE_SESSIONS} sessions, as many as it may"),
         }
     }
 }

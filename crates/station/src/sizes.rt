@@ -30,3 +30,7 @@ pub const PIECE_ROWS: usize = 640;
 
 /// The most octets of a notice: those of the longest message.
 pub const NOTICE_OCTETS: usize = HEADER + LONGEST_BODY;
+
+/// The marks of two subnets are so far apart: those of tills are 121 to 152, those of dispensers
+/// 181 to 244.
+pub(crate) const SUBNET_MARKS: u16 = 60;

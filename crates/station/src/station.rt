@@ -21,7 +21,7 @@ use crate::paper::Paper;
 use crate::peer::Peer;
 use crate::peer_end::PeerEnd;
 use crate::sizes::{FREE_PLACES, NODE_SESSIONS, PEERS};
-use crate::slots::{find_peer, free_key, next_owed, put_peer, reach_key, take_peer};
+use crate::slots::Slots;
 use app_message::Messages;
 use site_base::{Actor, Event, FpNo, NoMemory, PointState, TillNo};
 use site_book::{SiteBook, UnpaidSales};
@@ -39,7 +39,7 @@ pub struct Station {
     alloc: Global,
     gates: Gates,
     book: SiteBook,
-    slots: Vec<Option<Peer>>,
+    slots: Slots,
     paper: Paper,
     messages: Messages,
 }
@@ -48,17 +48,16 @@ impl Model for Station {
     ghost use Rattle.std.specs.Prelude.{◌≤◌, length};
     ghost use Rattle.station.specs.declared.sizes.TheConstants.{PEERS};
     ghost use Rattle.station.specs.Moves.{StationState};
-    ghost use Rattle.station.specs.PeerViews.{sessions_of};
 
     ghost Value = { StationState };
 
     ghost view = { λ s. record {
       gates = s.gates;
       book = s.book;
-      peers = sessions_of s.slots.items;
+      peers = s.slots;
     } };
 
-    ghost invariant = { λ s. length s.slots.items ≤ PEERS };
+    ghost invariant = { λ s. length s.slots ≤ PEERS };
 }
 
 impl Station {
@@ -70,7 +69,7 @@ impl Station {
             alloc,
             gates,
             book,
-            slots: Vec::new(alloc),
+            slots: Slots::new(alloc),
             paper: Paper::new(alloc),
             messages: Messages::new(alloc),
         }
@@ -145,12 +144,12 @@ impl Station {
         ensures ok { IfOk result (λ key. ArrivesAmong first last door key self.old self.new) }
         ensures err { OnErr result (self.new ≡ self.old) }
     {
-        match free_key(&self.slots, first, last) {
+        match self.slots.free_key(first, last) {
             None => Ok(None),
             Some(key) => {
                 let peer = Peer::new(self.alloc, door)?;
-                reach_key(&mut self.slots, key)?;
-                put_peer(&mut self.slots, key, peer);
+                self.slots.reach(key)?;
+                self.slots.put(key, peer);
                 Ok(Some(key))
             }
         }
@@ -161,7 +160,7 @@ impl Station {
     pub fn is_read(&self, key: usize) -> bool
         ensures { result ≡ is_read_at self.now key }
     {
-        match find_peer(&self.slots, key) {
+        match self.slots.find(key) {
             Some(peer) => peer.is_read(),
             None => false,
         }
@@ -176,7 +175,7 @@ impl Station {
         if !self.is_read(key) {
             return;
         }
-        if let Some(mut peer) = take_peer(&mut self.slots, key) {
+        if let Some(mut peer) = self.slots.take(key) {
             hear(
                 &mut peer,
                 &mut self.book,
@@ -186,7 +185,7 @@ impl Station {
                 &self.gates,
                 octets,
             );
-            put_peer(&mut self.slots, key, peer);
+            self.slots.put(key, peer);
         }
     }
 
@@ -194,7 +193,7 @@ impl Station {
     pub fn owed_octets(&self, key: usize) -> &[u8]
         ensures { result.now ≡ owed_at self.now key }
     {
-        match find_peer(&self.slots, key) {
+        match self.slots.find(key) {
             Some(peer) => peer.outbox.as_slice(),
             None => &[],
         }
@@ -206,16 +205,16 @@ impl Station {
         ensures found { IfSome result (λ key. IsNextOwed from key self.now) }
         ensures none { IfNone result (NoneIsOwed from self.now) }
     {
-        next_owed(&self.slots, from)
+        self.slots.next_owed(from)
     }
 
     /// Notes that a peer has taken this many of its pending octets.
     pub fn take(&mut self, key: usize, n: usize)
         ensures { self.new ≡ with_taken key n self.old }
     {
-        if let Some(mut peer) = take_peer(&mut self.slots, key) {
+        if let Some(mut peer) = self.slots.take(key) {
             peer.outbox.take(n);
-            put_peer(&mut self.slots, key, peer);
+            self.slots.put(key, peer);
         }
     }
 
@@ -224,9 +223,9 @@ impl Station {
     pub fn finish(&mut self, key: usize)
         ensures { self.new ≡ with_end key self.old }
     {
-        if let Some(mut peer) = take_peer(&mut self.slots, key) {
+        if let Some(mut peer) = self.slots.take(key) {
             finish(&mut peer, &mut self.book, &mut self.slots);
-            put_peer(&mut self.slots, key, peer);
+            self.slots.put(key, peer);
         }
     }
 
@@ -235,7 +234,7 @@ impl Station {
         ensures { self.new ≡ without_peer key self.old }
     {
         self.finish(key);
-        let _ = take_peer(&mut self.slots, key);
+        let _ = self.slots.take(key);
     }
 
     /// Returns how the session of a peer ended. None while it is active, and if there is no such
@@ -243,7 +242,7 @@ impl Station {
     pub fn end(&self, key: usize) -> Option<PeerEnd>
         ensures { result ≡ end_at self.now key }
     {
-        match find_peer(&self.slots, key) {
+        match self.slots.find(key) {
             Some(peer) => peer.end,
             None => None,
         }
@@ -253,7 +252,7 @@ impl Station {
     pub fn node(&self, key: usize) -> Option<[u8; 2]>
         ensures { result ≡ node_at self.now key }
     {
-        match find_peer(&self.slots, key) {
+        match self.slots.find(key) {
             Some(peer) => peer.talk.peer(),
             None => None,
         }
@@ -265,7 +264,7 @@ impl Station {
     pub fn speaker(&self, key: usize) -> Option<[u8; 2]>
         ensures { result ≡ speaker_at self.now key }
     {
-        match find_peer(&self.slots, key) {
+        match self.slots.find(key) {
             Some(peer) => peer.speaker(),
             None => None,
         }

@@ -1,6 +1,5 @@
 use Rattle.std.proofs.Common.{Err, refl, sym}
 use Rattle.site_base.specs.declared.row.Row.{Row}
-use Rattle.station.specs.PeerViews.{sessions_of}
 use Rattle.station.proofs.Notices.{refused_sign_off, with_notices-none, with_notices-unchanged}
 use Rattle.station.proofs.asking.notice_accepted.Goals as goal
 
@@ -12,7 +11,7 @@ returns-in-Err-reply c =
       reply = Err c.in-Err-reply.field-0;
     } in
     rw (c.in-Ok.is, c.in-Err-reply.is)
-    (sym (with_notices-unchanged row (sessions_of c.args.others.now) refl
+    (sym (with_notices-unchanged row c.args.others.now refl
     (refused_sign_off c.args.actor.now c.args.event.now c.in-Err-reply.field-0)))
 
 pub returns-in-Err : goal.returns-in-Err

@@ -1,6 +1,5 @@
 use Rattle.std.proofs.Common.{◌∙◌, arith, sym}
 use Rattle.station.specs.Hearing.{turn_of}
-use Rattle.station.specs.PeerViews.{sessions_of}
 use Rattle.station.proofs.Answering.{all_more, all_none, answers_none}
 use Rattle.station.proofs.hearing.answer_all.Goals as goal
 use Rattle.station.proofs.hearing.answer_all.Goals.{then-lasts, else-lasts}
@@ -18,14 +17,14 @@ loop-message-preserved c =
       | then-lasts w ↦
           rw (w.peer-is, w.book-is, w.others-is)
           (all_more ms l.message-index c.message-item.result start mid
-          (turn_of w.answer.new.book w.answer.new.peer) (sessions_of c.args.others.now)
-          (sessions_of l.others) (sessions_of w.answer.new.others) (omega arith) c.message-item.is
+          (turn_of w.answer.new.book w.answer.new.peer) c.args.others.now
+          l.others w.answer.new.others (omega arith) c.message-item.is
           l.invariant w.answer.ensures)
       | else-lasts w ↦
           rw (w.peer-is, w.book-is, w.others-is)
           (all_more ms l.message-index c.message-item.result start mid mid
-          (sessions_of c.args.others.now) (sessions_of l.others) (sessions_of l.others)
+          c.args.others.now l.others l.others
           (omega arith) c.message-item.is l.invariant
-          (answers_none c.message-item.result mid (sessions_of l.others)
+          (answers_none c.message-item.result mid l.others
           (sym c.lasts.ensures ∙ w.if-lasts.false)))
     ]

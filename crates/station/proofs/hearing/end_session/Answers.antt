@@ -1,6 +1,5 @@
-use Rattle.station.specs.PeerViews.{sessions_of}
 use Rattle.station.proofs.Turns.{told_none}
 use Rattle.station.proofs.hearing.end_session.Goals as goal
 
 pub returns-in_default-clause-told : goal.returns-in_default-clause-told
-returns-in_default-clause-told c = told_none c.args.book.now (sessions_of c.args.others.now)
+returns-in_default-clause-told c = told_none c.args.book.now c.args.others.now

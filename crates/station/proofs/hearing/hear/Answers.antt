@@ -1,5 +1,4 @@
 use Rattle.std.proofs.Common.{◌∙◌, None, refl, sym, true}
-use Rattle.station.specs.PeerViews.{sessions_of}
 use Rattle.station.proofs.Answering.{hears_nothing, hears_piece}
 use Rattle.station.proofs.Turns.{told_none}
 use Rattle.station.proofs.hearing.hear.Goals as goal
@@ -22,4 +21,4 @@ returns-in_default c =
     c.as_slice.result.now None true _ _ _ _ _ c.requires c.in-Ok.ensures.held
     (c.as_slice.ensures ∙ c.in-Ok.ensures.messages)
     (sym c.in_default.is ∙ c.in-Ok.ensures.fault) c.admit.ensures refl
-    (told_none c.admit.new.book (sessions_of c.admit.new.others))
+    (told_none c.admit.new.book c.admit.new.others)

@@ -1,7 +1,7 @@
 use Rattle.std.proofs.Common.{◌∙◌, arith, ap}
-use Rattle.station.specs.Peers.{with_peer}
+use Rattle.station.specs.Peers.{peer_at, with_peer}
 use Rattle.station.specs.PeerViews.{sessions_of}
-use Rattle.station.proofs.SlotSessions.{alike_next}
+use Rattle.station.proofs.SlotSessions.{alike_next, same_next}
 use Rattle.station.proofs.slots.reach_key.Goals as goal
 
 pub loop-at-preserved : goal.loop-at-preserved
@@ -13,4 +13,7 @@ loop-at-preserved c = record {
       ∙ alike_next c.args.key x c.loop-at.slots.items
       (omega (arith, c.loop-at.invariant.size, c.loop-at-test.true))
       ∙ c.loop-at.invariant.alike x;
+  same = λ k.
+      ap (λ items. peer_at (sessions_of items) k) c.push_reserved.ensures.items
+      ∙ same_next k c.loop-at.slots.items ∙ c.loop-at.invariant.same k;
 }

@@ -1,8 +1,8 @@
 use Rattle.std.proofs.Common.{arith}
-use Rattle.station.proofs.SlotSessions.{nobody_there}
+use Rattle.station.proofs.SlotSessions.{nobody_beyond}
 use Rattle.station.proofs.station.Station.book.Goals as goal
 
 pub returns-clause-keys : goal.returns-clause-keys
 returns-clause-keys c = λ k beyond.
     rw (← c.self.view_is)
-    (nobody_there k c.self.inside.slots.items (omega (arith, c.self.invariant, beyond)))
+    (nobody_beyond k c.self.inside.slots (omega (arith, c.self.invariant, beyond)))

@@ -4,7 +4,7 @@ use Rattle.std.proofs.lemmas.List.Edits.{map_over_more}
 use Rattle.std.proofs.Math.ListN.{length-set, set}
 use Rattle.station.specs.PeerViews.{session_of, sessions_of, slot_forgotten}
 use Rattle.station.proofs.SlotSessions.{found_again, sessions_at, sessions_size}
-use Rattle.station.proofs.asking.forget_till.Goals as goal
+use Rattle.station.proofs.slots.forget_till.Goals as goal
 
 pub loop-i-preserved : goal.loop-i-preserved
 loop-i-preserved c =
