@@ -1,6 +1,7 @@
 //! Octets that were read from a connection, some of which aren't heard yet.
 
-ghost use Rattle.std.specs.Prelude.{◌≤◌, ◌<◌, length};
+ghost use Rattle.std.specs.Prelude.{◌≡◌, ◌≤◌, length};
+ghost use Rattle.connection_calls.specs.declared.sizes.TheConstants.{PIECE_OCTETS};
 
 use connection_calls::PIECE_OCTETS;
 use site_base::NoMemory;
@@ -14,7 +15,7 @@ pub(crate) struct Piece {
     pub(crate) from: usize,
     /// What was read ends here.
     pub(crate) to: usize,
-    ghost some: { 0 < length octets.items },
+    ghost size: { length octets.items ≡ PIECE_OCTETS },
     ghost order: { from ≤ to },
     ghost within: { to ≤ length octets.items },
 }

@@ -1,21 +1,21 @@
 //! Rows of which others are sent something: dispensers, and the feed's peers.
 
-ghost use Rattle.std.specs.Prelude.{◌≡◌, ◌≤◌, ◌||◌, IfSome, OnOk, false, length, slice_get};
+ghost use Rattle.std.specs.Prelude.{◌≡◌, ◌≤◌, ◌||◌, IfSome, false, length, slice_get};
 ghost use Rattle.std.specs.Prelude.{None, Some, option_copied, true};
 ghost use Rattle.chapters.specs.RowText.{kept_behind};
 ghost use Rattle.site_book.specs.Changes.{is_changing};
 ghost use Rattle.journal.specs.Stored.{is_all_stored, time_of};
-ghost use Rattle.peer_connections.specs.Fed.{AreRead, BeginsChapter, with_rows};
+ghost use Rattle.peer_connections.specs.Fed.{AreRead, BeginsChapter};
 ghost use Rattle.peer_connections.specs.Sending.{HasChange, HasSeen};
 ghost use Rattle.peer_connections.specs.Tallied.{AreTallied};
 
 use crate::fed_rows::FedRows;
+use crate::feed::Feed;
 use crate::tallied_rows::tally_stored;
 use journal::{Disk, StoredStation};
 use row_tally::RowTally;
-use site_base::{Event, FpNo, NoMemory, PointSet, Row};
+use site_base::{Event, FpNo, PointSet, Row};
 use site_book::{SiteBook, is_changing};
-use stamps::Stamp;
 
 /// Watches a book for rows of which a dispenser may get a notice, and for rows that the feed sends.
 /// It has to look at rows before the book forgets them. The feed reads rows once they are stored.
@@ -32,7 +32,7 @@ pub struct ChangeWatch {
     /// So many rows were stored, and read by the feed, if there is one.
     rows_fed: u64,
     /// What the feed's peers are told, if there is a feed.
-    fed: Option<FedRows>,
+    fed: Feed,
     /// What rows tell that their site doesn't, if that is wanted.
     tally: Option<RowTally>,
 }
@@ -52,7 +52,7 @@ impl ChangeWatch {
             watches_releases,
             released: PointSet::new(),
             rows_fed: book.len(),
-            fed: None,
+            fed: Feed::none(),
             tally: None,
         }
     }
@@ -65,14 +65,14 @@ impl ChangeWatch {
         ensures read { self.new.rows_fed ≡ self.old.rows_fed }
         ensures changes { self.new.has_changes ≡ self.old.has_changes }
     {
-        self.fed = Some(fed);
+        self.fed = Feed::of(fed);
     }
 
     /// Returns the rows that the feed's peers are sent, if there is a feed.
     pub fn fed(&self) -> Option<&FedRows>
         ensures { option_copied result ≡ self.now.fed }
     {
-        self.fed.as_ref()
+        self.fed.rows()
     }
 
     /// Begins a tally of these rows, and of those that are stored from now on.
@@ -112,12 +112,7 @@ impl ChangeWatch {
         let first = self.rows_fed;
         self.rows_fed = stored.book().len();
         tally_stored(&mut self.tally, stored.book(), first, &stored.last_time());
-        let Some(fed) = &mut self.fed else {
-            return;
-        };
-        if read_rows(fed, stored.book(), first, &stored.last_time()).is_err() {
-            self.fed = None;
-        }
+        self.fed.read(stored.book(), first, &stored.last_time());
     }
 
     /// Notes that the history's next chapter begins after the rows that were read. If memory runs
@@ -129,12 +124,7 @@ impl ChangeWatch {
         ensures read { self.new.rows_fed ≡ self.old.rows_fed }
         ensures changes { self.new.has_changes ≡ self.old.has_changes }
     {
-        let Some(fed) = &mut self.fed else {
-            return;
-        };
-        if fed.begin_chapter().is_err() {
-            self.fed = None;
-        }
+        self.fed.begin_chapter();
     }
 
     /// Looks at the new rows, none of which is forgotten yet. Notes whether a dispenser gets a
@@ -214,28 +204,6 @@ impl ChangeWatch {
         self.has_changes = false;
         had_changes
     }
-}
-
-/// The rows of a book from this place on, of which none is forgotten, are read, with this time.
-/// After `NoMemory` no further row can be read.
-fn read_rows(
-    fed: &mut FedRows,
-    book: &SiteBook,
-    first: u64,
-    time: &Option<Stamp>,
-) -> Result<(), NoMemory>
-    requires { HasSeen first book.now }
-    ensures rows { OnOk result
-        (fed.new.rows ≡ with_rows time.now (kept_behind first book.now.rows) fed.old.rows) }
-    ensures starts { OnOk result (fed.new.starts ≡ fed.old.starts) }
-{
-    for place in first..book.len() {
-        let Some(row) = book.row(place) else {
-            unreachable!();
-        };
-        fed.read(time, &row)?;
-    }
-    Ok(())
 }
 
 /// The point that an event releases, if it does.

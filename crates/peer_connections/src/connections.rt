@@ -1,6 +1,6 @@
 //! The connections of all peers, and the station with which they speak.
 
-ghost use Rattle.std.specs.Prelude.{◌≡◌, ℕ, false, length, IfOk, IfSome, OnErr, OnOk, Some};
+ghost use Rattle.std.specs.Prelude.{◌≡◌, ℕ, false, length, IfOk, IfSome, None, OnErr, OnOk, Some};
 ghost use Rattle.std.specs.Prelude.{is_some, option_copied, true};
 ghost use Rattle.chapters.specs.RowText.{kept_behind};
 ghost use Rattle.site_book.specs.Unpaid.{unpaid_sales};
@@ -11,6 +11,7 @@ ghost use Rattle.journal.specs.Stored.{JournalGoesOn, is_all_stored, since_of, t
 ghost use Rattle.peer_connections.specs.Fed.{AreRead};
 ghost use Rattle.peer_connections.specs.Links.{ArePaired, has_link};
 ghost use Rattle.peer_connections.specs.Sending.{HasSeen, KeepsChanges};
+ghost use Rattle.peer_connections.specs.Tallied.{AreTallied};
 
 use crate::change_watch::ChangeWatch;
 use crate::due_list::DueList;
@@ -77,7 +78,10 @@ impl<D: Disk, S: PeerSocket> Connections<D, S> {
     ) -> Result<Connections<D, S>, NoMemory>
         requires alone { stored.station
             ≡ opening_station stored.station.gates stored.station.book }
-        ensures { IfOk result (λ c. c.stored ≡ stored) }
+        ensures stored { IfOk result (λ c. c.stored ≡ stored) }
+        ensures read { IfOk result (λ c. c.changes.rows_fed ≡ length stored.station.book.rows) }
+        ensures fed { IfOk result (λ c. c.changes.fed ≡ None) }
+        ensures tally { IfOk result (λ c. c.changes.tally ≡ None) }
     {
         let changes = ChangeWatch::new(stored.book(), stored.gates().house().is_some());
         Ok(Connections {
@@ -118,6 +122,7 @@ impl<D: Disk, S: PeerSocket> Connections<D, S> {
     #[tactic(auto, using(crate::proofs::Pairing::paired))]
     pub fn begin_feed(&mut self, fed: FedRows)
         ensures fed { self.new.changes.fed ≡ Some fed }
+        ensures read { self.new.changes.rows_fed ≡ self.old.changes.rows_fed }
         ensures tally { self.new.changes.tally ≡ self.old.changes.tally }
         ensures stored { self.new.stored ≡ self.old.stored }
         ensures links { self.new.links ≡ self.old.links }
@@ -138,6 +143,7 @@ impl<D: Disk, S: PeerSocket> Connections<D, S> {
     #[tactic(auto, using(crate::proofs::Pairing::paired))]
     pub fn begin_tally(&mut self, tally: RowTally)
         ensures tally { self.new.changes.tally ≡ Some tally }
+        ensures read { self.new.changes.rows_fed ≡ self.old.changes.rows_fed }
         ensures fed { self.new.changes.fed ≡ self.old.changes.fed }
         ensures stored { self.new.stored ≡ self.old.stored }
         ensures links { self.new.links ≡ self.old.links }
@@ -220,6 +226,11 @@ impl<D: Disk, S: PeerSocket> Connections<D, S> {
         ensures fed { OnOk result (AreRead (time_of self.new.stored.journal)
             (kept_behind self.old.changes.rows_fed self.new.stored.station.book.rows)
             self.old.changes.fed self.new.changes.fed) }
+        ensures tally { OnOk result (AreTallied (time_of self.new.stored.journal)
+            (kept_behind self.old.changes.rows_fed self.new.stored.station.book.rows)
+            self.old.changes.tally self.new.changes.tally) }
+        ensures count { OnOk result
+            (self.new.changes.rows_fed ≡ length self.new.stored.station.book.rows) }
         ensures unfed { OnErr result (self.new.changes ≡ self.old.changes) }
         ensures noted { KeepsChanges self.old.changes self.new.changes
             self.new.stored.station.book }
@@ -270,7 +281,11 @@ impl<D: Disk, S: PeerSocket> Connections<D, S> {
                     return Ok(());
                 }
                 self.has_told_refused = true;
-                let _ = eprintln!(rt; "no new chapter can be made: the open one goes on");
+                let _ = eprintln!(rt;
+                    "no new chapter can be made: the open one goes on; see that its disk has room, \
+                     that this user may write to its folder, and that nothing there has the next \
+                     chapter's name"
+                );
             }
         }
         warn_of_last_shifts(rt, self.stored.book().open_shift());

@@ -56,6 +56,14 @@ impl FedRows {
         self.rows.read(*time, row)
     }
 
+    /// Lets go of the rows' lines, and of their memory.
+    pub(crate) fn forget_lines(&mut self)
+        ensures lines { self.new.rows.lines ≡ [] }
+        ensures starts { self.new.starts ≡ self.old.starts }
+    {
+        self.rows.forget_lines();
+    }
+
     /// A chapter begins with the next row. After `NoMemory` that isn't known.
     pub(crate) fn begin_chapter(&mut self) -> Result<(), NoMemory>
         ensures rows { self.new.rows ≡ self.old.rows }

@@ -15,6 +15,7 @@ mod day_end;
 mod due_list;
 mod due_peers;
 mod fed_rows;
+mod feed;
 mod hearing;
 mod held_back;
 mod late_peers;

@@ -67,7 +67,10 @@ impl<D: Disk, S: PeerSocket> Connections<D, S> {
         match self.settle(registry, door, stream, now) {
             Arrival::Done => {}
             Arrival::NoPlace(_) => {
-                let _ = eprintln!(rt; "a connection was closed: all places are taken");
+                let _ = eprintln!(rt;
+                    "a connection was closed: all places are taken; ss -tnp, at a door ss -xnp, \
+                     lists who has them"
+                );
             }
             Arrival::NoMemory(_) => {
                 let _ = eprintln!(rt; "a connection was closed: fault 31: out of memory");

@@ -84,6 +84,15 @@ impl LastRows {
         Ok(())
     }
 
+    /// Lets go of the lines, and of their memory.
+    pub fn forget_lines(&mut self)
+        ensures lines { self.new.lines ≡ [] }
+        ensures site { self.new.site ≡ self.old.site }
+        ensures next { self.new.next ≡ self.old.next }
+    {
+        self.lines.clear();
+    }
+
     /// Returns the number of the next row.
     pub fn next(&self) -> u64
         ensures next { result ≡ self.now.next }

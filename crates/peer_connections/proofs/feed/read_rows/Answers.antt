@@ -2,7 +2,7 @@ use Rattle.std.proofs.Common.{arith, ◌≡◌, ◌∙◌, ◌<◌, Some, length
 use Rattle.std.specs.Prelude.{slice_get}
 use Rattle.chapters.proofs.Rows.{there_is}
 use Rattle.peer_connections.proofs.Feeding.{fed_begun, fed_more}
-use Rattle.peer_connections.proofs.change_watch.read_rows.Goals as goal
+use Rattle.peer_connections.proofs.feed.read_rows.Goals as goal
 
 pub loop-place-init : goal.loop-place-init
 loop-place-init c = record {

@@ -1,7 +1,7 @@
 use Rattle.std.proofs.Common.{◌≡◌, ◌≤◌, take}
 use Rattle.chapters.specs.RowText.{kept_behind}
 use Rattle.peer_connections.specs.Fed.{with_rows}
-use Rattle.peer_connections.proofs.change_watch.read_rows.Given as goal
+use Rattle.peer_connections.proofs.feed.read_rows.Given as goal
 
 -- the rows up to this place are read
 abbrev pub invariant-loop-place : goal.invariant-loop-place
