@@ -235,8 +235,8 @@ fn print_one<R: Print + Eprint>(
 fn exit_closed(rt: &impl Eprint) -> ExitCode {
     exit_with(
         eprintln!(rt;
-            "the station closed the connection before it replied: \
-             see whether the request was done before you ask again"
+            "the station closed the connection before it replied: see whether the request was done \
+             before you ask again, and that this isn't the port of a page or a feed"
         ),
         FAULT,
     )
@@ -246,8 +246,8 @@ fn exit_closed(rt: &impl Eprint) -> ExitCode {
 fn exit_barred(rt: &impl Eprint) -> ExitCode {
     exit_with(
         eprintln!(rt;
-            "the session has ended: its lines are of one till or dispenser, which asks at its \
-             door if it has one; nobody asks as the house till"
+            "the session has ended: give the lines of one till or dispenser alone, ask at its door \
+             if it has one, and not as the house till"
         ),
         FAULT,
     )

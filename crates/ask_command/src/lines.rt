@@ -4,8 +4,8 @@ use program_io::{exit_no_memory, read_line};
 use std::io::{BufReader, Read};
 use std::process::ExitCode;
 
-/// A line of an input. The first one is read before a station is looked for: so a closed standard
-/// input is noticed, whose descriptor the connection would get.
+/// A line of an input. The first one is read before any other file is opened: so a closed standard
+/// input is noticed.
 #[derive(Drop)]
 pub(crate) struct Lines<I> {
     reader: BufReader<I>,

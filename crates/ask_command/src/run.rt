@@ -4,12 +4,16 @@ use crate::asking::ask_all;
 use crate::lines::Lines;
 use command_line::AskOptions;
 use program_io::{COMMAND_LINE, FAULT, exit_no_memory, exit_with, is_folder};
-use std::io::{ErrorKind, Read};
+use std::fs::File;
+use std::io::{Error, ErrorKind, Read};
 use std::net::{Ipv4Addr, Net, SocketAddr, SocketAddrV4, TcpListener, TcpStream};
 use std::os::unix::net::UnixStream;
 use std::process::ExitCode;
 use std::rt::Files;
 use std::time::Duration;
+
+/// A file without octets.
+const NOTHING: &str = "/dev/null";
 
 /// A reply is waited for so many seconds.
 pub(crate) const REPLY_SECONDS: u64 = 30;
@@ -27,6 +31,11 @@ pub fn run_ask<
         Ok(lines) => lines,
         Err(status) => return status,
     };
+    // A connection gets the least descriptor that is free. These files take those of standard
+    // streams that are closed, so that nothing that is printed goes to the station.
+    let _input = File::open(rt, NOTHING);
+    let _output = File::open(rt, NOTHING);
+    let _errors = File::open(rt, NOTHING);
     match there {
         Place::Port(port) => ask_port(rt, lines, port, options.strict),
         Place::Door(path) => ask_door(rt, lines, path, options.strict),
@@ -48,13 +57,13 @@ fn read_place<'a>(rt: &impl Eprint, options: &AskOptions<'a>) -> Result<Place<'a
         (Some(port), None) => match read_port(port) {
             Some(port) => Ok(Place::Port(port)),
             None => Err(exit_with(
-                eprintln!(rt; "--port is a decimal number from 1 to 65535"),
+                eprintln!(rt; "error: --port is a decimal number from 1 to 65535"),
                 COMMAND_LINE,
             )),
         },
         (None, Some(path)) => Ok(Place::Door(path)),
         _ => Err(exit_with(
-            eprintln!(rt; "one of --port and --door is wanted"),
+            eprintln!(rt; "error: ask needs --port N or --door PATH, and not both"),
             COMMAND_LINE,
         )),
     }
@@ -105,19 +114,28 @@ fn ask_door<R: Files + Net + Print + Eprint + AllocGlobal, I: Read + Drop>(
     };
     let stream = match UnixStream::connect(rt, socket.as_str()) {
         Ok(stream) => stream,
-        Err(error) if error.kind() == ErrorKind::PermissionDenied => {
-            return exit_with(
-                eprintln!(rt; "this user may not use {socket}: ask as a user who may"),
-                FAULT,
-            );
-        }
-        Err(_) => {
-            return exit_with(
-                eprintln!(rt; "nobody listens at {socket}: start the station with this door"),
-                FAULT,
-            );
-        }
+        Err(error) => return exit_unconnected(rt, socket.as_str(), &error),
     };
     let _ = stream.set_read_timeout(Some(Duration::from_secs(REPLY_SECONDS)));
     ask_all(rt, lines, stream, strict)
+}
+
+/// Prints why a socket can't be connected to, and what to do.
+fn exit_unconnected(rt: &impl Eprint, socket: &str, error: &Error) -> ExitCode {
+    let printed = match error.kind() {
+        ErrorKind::PermissionDenied => {
+            eprintln!(rt; "this user may not use {socket}: ask as a user who may")
+        }
+        ErrorKind::ConnectionRefused => {
+            eprintln!(rt; "nobody listens at {socket}: start the station with this door")
+        }
+        ErrorKind::NotFound => eprintln!(rt;
+            "there is no {socket}: name one door, as doors/till-01, of a station that runs"
+        ),
+        _ => eprintln!(rt;
+            "cannot connect to {socket}: see that it is a door's socket, and that its path has at \
+             most 107 octets"
+        ),
+    };
+    exit_with(printed, FAULT)
 }

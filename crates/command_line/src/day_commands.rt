@@ -11,8 +11,13 @@ use crate::building::{add_argument, add_command, start};
 use clap::Command;
 use std::alloc::{AllocError, Global};
 
-/// The port of a server or of a station.
-const ANY_PORT: &str = "The port on 127.0.0.1, 1 to 65535; 0 is a free one";
+/// The port of a server.
+const SERVER_PORT: &str = "The port on 127.0.0.1, 1 to 65535; 0 is a free one";
+
+/// The port of a station.
+const STATION_PORT: &str =
+    "The port for tills and dispensers on 127.0.0.1, 1 to 65535; 0 is a free one; this or \
+     --doors is needed";
 
 /// Adds these commands to the program.
 pub fn add_commands<'a>(alloc: Global, program: Command<'a>) -> Result<Command<'a>, AllocError>
@@ -36,7 +41,7 @@ fn serve<'a>(alloc: Global) -> Result<Command<'a>, AllocError>
     let sessions = "How many sessions are served in all, 1 to 10000";
     let command = start(alloc, "serve", about, example);
     let command = add_argument(command, site_file(alloc))?;
-    let command = add_argument(command, required(alloc, "port", "N", ANY_PORT))?;
+    let command = add_argument(command, required(alloc, "port", "N", SERVER_PORT))?;
     let command = add_argument(command, required(alloc, "workers", "N", workers))?;
     add_argument(command, required(alloc, "sessions", "N", sessions))
 }
@@ -46,18 +51,19 @@ fn station<'a>(alloc: Global) -> Result<Command<'a>, AllocError>
         (new_rule (codes "FILE") ∷ option_rule (codes "port") ∷ option_rule (codes "doors")
         ∷ option_rule (codes "history") ∷ option_rule (codes "page") ∷ option_rule (codes "name")
         ∷ option_rule (codes "feed") ∷ option_rule (codes "idle") ∷ option_rule (codes "rate")
-        ∷ option_rule (codes "house") ∷ option_rule (codes "release-age") ∷ option_rule (codes "lost")
-        ∷ flag_rule (codes "detached") ∷ flag_rule (codes "json") ∷ []))) }
+        ∷ option_rule (codes "house") ∷ option_rule (codes "release-age")
+        ∷ option_rule (codes "lost") ∷ flag_rule (codes "detached") ∷ flag_rule (codes "json")
+        ∷ []))) }
 {
     let about = "Serves every till and dispenser of a site on 127.0.0.1 until standard input ends, \
-                 and prints the report of the day";
+                 and prints the report of the day, or of the whole history";
     let example = "Example: forecourt station examples/five_points.toml --port 4001 \
                    --history history\n";
     let command = start(alloc, "station", about, example);
-    let doors =
-        "The folder of the doors, with a folder for each node (till-01) that has its socket";
+    let doors = "A folder with one for each till and dispenser (till-01, dispenser-01), in which \
+                 the station makes its socket";
     let command = add_argument(command, optional_site_file(alloc))?;
-    let command = add_argument(command, option(alloc, "port", "N", ANY_PORT))?;
+    let command = add_argument(command, option(alloc, "port", "N", STATION_PORT))?;
     let command = add_argument(command, option(alloc, "doors", "FOLDER", doors))?;
     add_station_options(alloc, command)
 }
@@ -67,18 +73,22 @@ fn add_station_options<'a>(alloc: Global, command: Command<'a>) -> Result<Comman
     ensures { (s : _) → HasShape s command.entry → IfOk result (HasShape (with_arguments s
         (option_rule (codes "history") ∷ option_rule (codes "page") ∷ option_rule (codes "name")
         ∷ option_rule (codes "feed") ∷ option_rule (codes "idle") ∷ option_rule (codes "rate")
-        ∷ option_rule (codes "house") ∷ option_rule (codes "release-age") ∷ option_rule (codes "lost")
-        ∷ flag_rule (codes "detached") ∷ flag_rule (codes "json") ∷ []))) }
+        ∷ option_rule (codes "house") ∷ option_rule (codes "release-age")
+        ∷ option_rule (codes "lost") ∷ flag_rule (codes "detached") ∷ flag_rule (codes "json")
+        ∷ []))) }
 {
     let history =
-        "Store each row in this folder before its reply is sent, and continue it at the next start";
-    let page = "Port of the page that shows the site; 0 is a free one (default: no page)";
-    let name = "The site's name on the page";
-    let feed =
-        "Port of the feed, which sends each stored row as JSON; 0 is a free one (default: no feed)";
+        "Store each row in this folder before its reply is sent, and continue it at the next \
+         start (default: nothing is kept)";
+    let page = "Port on 127.0.0.1 of the page that shows the site; 0 is a free one (default: no \
+                page)";
+    let name = "The site's name on the page (default: Forecourt)";
+    let feed = "Port on 127.0.0.1 of the feed, which sends each stored row as JSON; 0 is a free \
+                one (default: no port; a folder feed among the doors makes a feed, too)";
     let idle = "End a session after this many seconds without input, 1 to 86400 (default: never)";
     let rate = "Requests a second for each session, up to 1000000; 0 is no limit (default: 1000)";
-    let detached = "Run until the system stops it, also if standard input ends";
+    let detached =
+        "Run until the system stops it, also if standard input ends; no report is printed";
     let json = "Print the report as one JSON object";
     let command = add_argument(command, option(alloc, "history", "FOLDER", history))?;
     let command = add_argument(command, option(alloc, "page", "N", page))?;

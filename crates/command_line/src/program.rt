@@ -27,7 +27,7 @@ fn build_bare<'a>(alloc: Global) -> Command<'a>
         .version("0.1.0")
         .subcommand_required(true)
         .about(
-            "The forecourt site controller; alone it replays standard input on the site \
-             that it knows",
+            "Runs a filling station's forecourt, and reads what it kept. Without a command it \
+             replays the messages on standard input with a site of its own",
         )
 }

@@ -35,8 +35,8 @@ fn replay<'a>(alloc: Global) -> Result<Command<'a>, AllocError>
         (site_file_rule ∷ flag_rule (codes "changes") ∷ option_rule (codes "shift")
         ∷ flag_rule (codes "json") ∷ option_rule (codes "from") ∷ []))) }
 {
-    let about = "Prints the replies to the messages on standard input, on the site of a file, or \
-                 the replies of a history";
+    let about = "Prints the replies of a history, or those to messages on standard input, with \
+                 the site of a file";
     let example = "Example: forecourt replay examples/five_points.toml < examples/day.hex\n";
     let changes = "Also print the notices that are sent to dispensers";
     let json = "Print each row of a history as one JSON object on a line";
@@ -54,8 +54,8 @@ fn report<'a>(alloc: Global) -> Result<Command<'a>, AllocError>
         (site_file_rule ∷ flag_rule (codes "human") ∷ flag_rule (codes "json")
         ∷ option_rule (codes "shift") ∷ []))) }
 {
-    let about = "Prints the report of the recorded messages on standard input, on the site of a \
-                 file, or of a history";
+    let about = "Prints the report of a history, or of recorded messages on standard input, with \
+                 the site of a file";
     let example = "Examples: forecourt report examples/five_points.toml < examples/day.hex; \
                    forecourt report history --shift 3 --human\n";
     let human = "Print litres and money in columns, for people";
@@ -72,8 +72,8 @@ fn sales<'a>(alloc: Global) -> Result<Command<'a>, AllocError>
         ∷ option_rule (codes "shift") ∷ option_rule (codes "from") ∷ option_rule (codes "to")
         ∷ []))) }
 {
-    let about = "Prints the sales in the recorded messages on standard input, on the site of a \
-                 file, or in a history, as CSV";
+    let about = "Prints as CSV the sales of a history, or of recorded messages on standard input, \
+                 with the site of a file";
     let example = "Examples: forecourt sales examples/five_points.toml < examples/paying_day.hex; \
                    forecourt sales history --shift 3..5\n";
     let draws = "Print the fuel drawn for tests instead of the sales";
@@ -92,9 +92,8 @@ fn meters<'a>(alloc: Global) -> Result<Command<'a>, AllocError>
         (site_file_rule ∷ flag_rule (codes "gaps") ∷ flag_rule (codes "csv")
         ∷ flag_rule (codes "json") ∷ option_rule (codes "shift") ∷ []))) }
 {
-    let about =
-        "Prints what each nozzle metered, in the recorded messages on standard input, on the \
-                 site of a file, or in a history";
+    let about = "Prints what each nozzle metered in a history, or in recorded messages on \
+                 standard input, with the site of a file";
     let example = "Examples: forecourt meters examples/five_points.toml < examples/day.hex; \
                    forecourt meters history --shift 3 --gaps\n";
     let gaps = "Print the replaced meters and the refused readings instead of the nozzles";

@@ -38,7 +38,7 @@ fn explain<'a>(alloc: Global) -> Result<Command<'a>, AllocError>
 fn spell<'a>(alloc: Global) -> Command<'a>
     ensures { HasShape (command (codes "spell") []) result }
 {
-    let about = "Prints the requests that standard input has in words, as messages in hexadecimal";
+    let about = "Turns requests in words on standard input into messages in hexadecimal";
     let example = "Example: forecourt spell < examples/paying_day.words\n";
     start(alloc, "spell", about, example)
 }
@@ -48,10 +48,10 @@ fn ask<'a>(alloc: Global) -> Result<Command<'a>, AllocError>
         (option_rule (codes "port") ∷ option_rule (codes "door") ∷ flag_rule (codes "strict")
         ∷ []))) }
 {
-    let about = "Sends the requests that standard input has in words to a running station, and \
-                 prints its replies";
+    let about = "Sends the requests in words on standard input to a running station, and prints \
+                 its replies";
     let example = "Example: echo 't1 SignOn' | forecourt ask --port 4001\n";
-    let port = "The port on 127.0.0.1 on which the station listens, 1 to 65535";
+    let port = "The port of the station on 127.0.0.1, 1 to 65535; this or --door is needed";
     let door = "The door of the till or dispenser that asks: its socket, or its folder";
     let strict = "End at the first refusal, with status 1";
     let command = start(alloc, "ask", about, example);

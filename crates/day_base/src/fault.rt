@@ -17,13 +17,13 @@ pub enum DayFault {
     #[error("fault 31")]
     NoMemory,
     /// It can't wait for connections, at a door or at all, or one couldn't be made.
-    #[error("fault 63")]
+    #[error("fault 63\ncannot wait for connections, or make one: raise the limit of open files (ulimit -n)")]
     NoConnection,
     /// It can't listen on this port of 127.0.0.1.
-    #[error("fault 63\ncannot listen on port {0}: another program may do so, or this user may not")]
+    #[error("fault 63\ncannot listen on port {0}: another program has it (see ss -ltnp), this user may not, or too few files may be open (ulimit -n)")]
     Deaf(u16),
     /// A worker, or the thread that waits for a station's input, couldn't be started.
-    #[error("fault 64")]
+    #[error("fault 64\ncannot start a thread: raise the limit of address space (ulimit -v), or of processes (ulimit -u)")]
     NoWorker,
     /// A write of the day's text, or of its journal, failed, or was interrupted too often.
     #[error("fault {}", .0.number())]

@@ -3,12 +3,12 @@
 ghost use Rattle.std.specs.Prelude.{IfErr};
 ghost use Rattle.program_io.specs.Statuses.{IsFailed};
 
+use crate::ends::exit_desk;
 use command_line::DemoOptions;
-use day_base::exit_day;
 use demo::{DemoScript, ScriptFault, read_script};
 use desk_days::{DemoPlan, demo_day};
 use devices::Counted;
-use program_io::{FAULT, TURNS, exit_fault, exit_no_memory, read_file, read_site};
+use program_io::{FAULT, TURNS, exit_no_memory, exit_with, read_file, read_site};
 use site_base::SiteConfig;
 use std::io;
 use std::net::{Net, TcpListener, TcpStream};
@@ -44,10 +44,40 @@ fn read_demo_script<R: Files + Eprint + AllocGlobal>(
     ensures failed { IfErr result IsFailed }
 {
     let octets = read_file(rt, name)?;
-    match read_script(rt.alloc(), skip_mark(&octets)) {
+    let text = skip_mark(&octets);
+    match read_script(rt.alloc(), text) {
         Ok(script) => Ok(script),
         Err(ScriptFault::NoMemory) => Err(exit_no_memory(rt)),
-        Err(fault) => Err(exit_fault(rt, fault, FAULT)),
+        Err(ScriptFault::Line(number)) => Err(exit_line(rt, number, text)),
+    }
+}
+
+/// Prints that the line of this number, counted from 1, of a script is faulty, the line itself, if
+/// it can be printed, and what to do. Returns the exit status.
+fn exit_line(rt: &impl Eprint, number: u64, script: &[u8]) -> ExitCode
+    ensures { IsFailed result }
+{
+    let _ = eprintln!(rt; "script line {number}");
+    if let Some(line) = printable_line(script, number) {
+        let _ = eprintln!(rt; "{line}");
+    }
+    exit_with(
+        eprintln!(rt;
+            "no such line may stand there, or it is the last one, and there is no section: see \
+             'Demo scripts' in PROGRAM.md"
+        ),
+        FAULT,
+    )
+}
+
+/// The line of this number, counted from 1, if it is printable ASCII.
+fn printable_line(script: &[u8], number: u64) -> Option<&str> {
+    let mut lines = script.split(|octet| *octet == b'\n');
+    let line = lines.nth(number.checked_sub(1)? as usize)?;
+    if line.iter().all(|octet| matches!(octet, b' '..=b'~')) {
+        str::from_utf8(line).ok()
+    } else {
+        None
     }
 }
 
@@ -79,5 +109,5 @@ where
         &mut left,
         &mut writer,
     );
-    exit_day(rt, end)
+    exit_desk(rt, end)
 }

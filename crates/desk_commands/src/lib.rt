@@ -5,6 +5,7 @@
 #![tactic(auto)]
 
 mod demo_command;
+mod ends;
 mod serve;
 
 pub use demo_command::run_demo;

@@ -1,7 +1,8 @@
 //! `forecourt serve FILE --port N --workers N --sessions N`.
 
+use crate::ends::exit_desk;
 use command_line::ServeOptions;
-use day_base::{DayFault, ServerPlan, exit_day};
+use day_base::{DayFault, ServerPlan};
 use desk_days::{Loopback, serve_day};
 use devices::Counted;
 use program_io::{COMMAND_LINE, TURNS, exit_with, read_site};
@@ -27,7 +28,7 @@ where
     match read_site(rt, options.site) {
         Ok(config) => {
             let end = serve_on(rt, threads, &config, plan);
-            exit_day(rt, end)
+            exit_desk(rt, end)
         }
         Err(status) => status,
     }

@@ -10,7 +10,7 @@ mod version;
 use crate::quiet_host::QuietHost;
 use crate::version::build_lines;
 use ask_command::run_ask;
-use command_line::{Command, ExplainOptions, NoCommand, parse};
+use command_line::{Command, ExplainOptions, NoCommand, StationOptions, parse};
 use desk_commands::{run_demo, run_serve};
 use offline_commands::{
     run_check, run_explain, run_meters, run_replay, run_replay_here, run_report, run_sales,
@@ -34,7 +34,7 @@ use unmarked_input::Unmarked;
 const MESSAGE: &str = "a message in hexadecimal";
 
 /// A line of those who read requests.
-const REQUEST: &str = "a request in words";
+const REQUEST: &str = "a request in words, as t1 SignOn";
 
 fn main(rt: HostRuntime) -> ExitCode {
     let words = match read_words(&rt) {
@@ -57,15 +57,15 @@ fn read_words(rt: &HostRuntime) -> Result<Vec<String>, ExitCode> {
         Ok(words) => words.collect(alloc).map_err(|_| exit_no_memory(rt)),
         Err(error) if error.kind() == ErrorKind::OutOfMemory => Err(exit_no_memory(rt)),
         Err(_) => Err(exit_with(
-            eprintln!(rt; "a word of the command line isn't text"),
+            eprintln!(rt; "error: a word of the command line isn't text"),
             COMMAND_LINE,
         )),
     }
 }
 
 /// Runs this command. Only a server, a station and a demo start `threads`. A byte order mark that
-/// the input begins with is dropped. If the reader of its output has closed the pipe, a command that
-/// prints what it reads ends quietly.
+/// the input begins with is dropped. If the reader of its output has closed the pipe, a command
+/// ends quietly, but for `serve` and `station`.
 fn run<T: Threads + Wait + Sync>(rt: &HostRuntime, threads: &T, command: Command<'_>) -> ExitCode {
     let quiet = QuietHost::new(rt);
     let host = &quiet;
@@ -81,11 +81,8 @@ fn run<T: Threads + Wait + Sync>(rt: &HostRuntime, threads: &T, command: Command
         Command::Meters(options) if is_folder(rt, options.site) => run_meters_folder(host, options),
         Command::Meters(options) => run_meters(host, open_input(rt, MESSAGE), options),
         Command::Serve(options) => run_serve(rt, threads, options),
-        Command::Station(options) => match rt.clone() {
-            Ok(errors) => run_station(rt, threads, rt.stdin(), errors, options),
-            Err(_) => exit_no_memory(rt),
-        },
-        Command::Demo(options) => run_demo(rt, threads, options),
+        Command::Station(options) => run_station_here(rt, threads, options),
+        Command::Demo(options) => run_demo(host, threads, options),
         Command::Shifts(options) => run_shifts(host, options.history, options.json),
         Command::Next(history) => run_next(host, history),
         Command::Verify(options) => run_verify(host, options),
@@ -96,9 +93,25 @@ fn run<T: Threads + Wait + Sync>(rt: &HostRuntime, threads: &T, command: Command
             None => run_explain(host, open_input(rt, MESSAGE), options),
         },
         Command::Spell => run_spell(host, open_input(rt, REQUEST)),
-        Command::Ask(options) => run_ask(rt, open_input(rt, REQUEST), options),
+        Command::Ask(options) => run_ask(host, open_input(rt, REQUEST), options),
     };
     quiet.end(status)
+}
+
+/// Runs a station whose day ends with standard input. At a terminal it is said how that ends.
+fn run_station_here<T: Threads + Wait + Sync>(
+    rt: &HostRuntime,
+    threads: &T,
+    options: StationOptions<'_>,
+) -> ExitCode {
+    let input = rt.stdin();
+    if !options.detached && input.is_terminal() {
+        let _ = eprintln!(rt; "Ctrl-D ends the day");
+    }
+    match rt.clone() {
+        Ok(errors) => run_station(rt, threads, input, errors, options),
+        Err(_) => exit_no_memory(rt),
+    }
 }
 
 /// Standard input without its byte order mark. At a terminal it is said what is to be typed there.

@@ -8,8 +8,12 @@ use std::cell::Cell;
 use std::fmt::Display;
 use std::fs::{Metadata, OpenOptions};
 use std::io::{self, ErrorKind};
+use std::net::{Net, SocketAddr, UdpSocket};
+use std::os::fd::OwnedFd;
+use std::os::unix::net::{SocketAddr as UnixAddr, UnixStream};
 use std::process::ExitCode;
 use std::rt::Files;
+use std::time::Duration;
 
 /// The status with which others end then: that of a program that SIGPIPE ends, 128 and 13.
 const CLOSED_PIPE: u8 = 141;
@@ -138,5 +142,43 @@ impl<R: Files> Files for QuietHost<'_, R> {
 
     fn remove_dir_all<B: Allocator>(&self, alloc: B, path: &str) -> io::Result<()> {
         self.host.remove_dir_all(alloc, path)
+    }
+}
+
+impl<R: Net> Net for QuietHost<'_, R> {
+    type Stream = R::Stream;
+
+    type Listener = R::Listener;
+
+    fn bind(&self, addr: SocketAddr) -> io::Result<R::Listener> {
+        self.host.bind(addr)
+    }
+
+    fn connect(&self, addr: SocketAddr) -> io::Result<R::Stream> {
+        self.host.connect(addr)
+    }
+
+    fn connect_timeout(&self, addr: SocketAddr, timeout: Duration) -> io::Result<R::Stream> {
+        self.host.connect_timeout(addr, timeout)
+    }
+
+    fn bind_udp(&self, addr: SocketAddr) -> io::Result<UdpSocket> {
+        self.host.bind_udp(addr)
+    }
+
+    fn lookup_host(&self, host: &str, port: u16, found: &mut [SocketAddr]) -> io::Result<usize> {
+        self.host.lookup_host(host, port, found)
+    }
+
+    fn connect_unix(&self, addr: &UnixAddr) -> io::Result<UnixStream> {
+        self.host.connect_unix(addr)
+    }
+
+    fn unix_pair(&self) -> io::Result<(UnixStream, UnixStream)> {
+        self.host.unix_pair()
+    }
+
+    fn unix_socket(&self) -> io::Result<OwnedFd> {
+        self.host.unix_socket()
     }
 }

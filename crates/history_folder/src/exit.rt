@@ -5,8 +5,10 @@ ghost use Rattle.program_io.specs.Statuses.{IsFailed};
 use crate::fault::FolderFault;
 use chapters::HistoryFault;
 use program_io::{FAULT, exit_no_memory, exit_unread, exit_with};
-use std::fmt::Display;
 use std::process::ExitCode;
+
+/// The line of a chapter that names the chapter.
+const FIRST_LINE: u64 = 1;
 
 /// The line of a chapter that names its site.
 const SITE_LINE: u64 = 2;
@@ -18,45 +20,59 @@ pub fn exit_folder<R: Eprint + AllocGlobal>(rt: &R, folder: &str, fault: FolderF
     match fault {
         FolderFault::NoMemory => exit_no_memory(rt),
         FolderFault::Unread(error) => exit_unread(rt, folder, &error),
-        FolderFault::Missing(_) => exit_advised(rt, fault, "put its file back from a backup"),
+        FolderFault::Missing(number) => exit_with(
+            eprintln!(rt;
+                "chapter {number} is missing\n\
+                 put {folder}/{number:06}.journal back from a backup, or take the later ones out \
+                 if they don't belong there"
+            ),
+            FAULT,
+        ),
     }
 }
 
-/// Prints why the chapters of a history are refused, and returns the exit status.
-pub fn exit_history(rt: &impl Eprint, fault: HistoryFault) -> ExitCode
+/// Prints why the chapters of the history in this folder are refused, and below it which line of
+/// which file that is and what to do. Returns the exit status.
+pub fn exit_history(rt: &impl Eprint, folder: &str, fault: HistoryFault) -> ExitCode
     ensures { IsFailed result }
 {
     match fault {
         HistoryFault::NoMemory => exit_no_memory(rt),
-        HistoryFault::Line(_, line) if line == SITE_LINE => exit_another_site(rt),
-        HistoryFault::Line(_, _) => exit_advised(
-            rt,
-            fault,
-            "torn, or edited here or above: see 'A chapter with a bad line' in OPERATING.md",
-        ),
-        HistoryFault::NotAfter(_, _) => exit_advised(
-            rt,
-            fault,
-            "put back the right file from a backup, or take out what doesn't belong there",
+        HistoryFault::Line(number, line) => exit_line(rt, folder, number, line),
+        HistoryFault::NotAfter(number, before) => exit_with(
+            eprintln!(rt;
+                "{fault}\n\
+                 {folder}/{before:06}.journal doesn't end with the seal that \
+                 {folder}/{number:06}.journal names: put back from a backup the one that was cut \
+                 or changed, and take none out whose rows count"
+            ),
+            FAULT,
         ),
     }
 }
 
-/// How the program ends where the site of a history isn't that of its chapters, or of a file that
-/// is given.
-pub fn exit_another_site(rt: &impl Eprint) -> ExitCode
+/// Prints that this line of a chapter is refused, and returns the exit status.
+fn exit_line(rt: &impl Eprint, folder: &str, number: u64, line: u64) -> ExitCode
     ensures { IsFailed result }
 {
-    exit_advised(
-        rt,
-        "history of another site",
-        "give the site file that the history began with, or none; take out another site's chapters",
-    )
-}
-
-/// Prints a fault, and below it what to do.
-pub fn exit_advised<F: Display + Drop>(rt: &impl Eprint, fault: F, advice: &str) -> ExitCode
-    ensures { IsFailed result }
-{
-    exit_with(eprintln!(rt; "{fault}\n{advice}"), FAULT)
+    let told = match line {
+        FIRST_LINE => eprintln!(rt;
+            "chapter {number} line {line}\n\
+             {folder}/{number:06}.journal is empty, or begins as no chapter {number} does: put \
+             the right file back from a backup (if it is the last one, see 'chapter N line 1' in \
+             OPERATING.md)"
+        ),
+        SITE_LINE => eprintln!(rt;
+            "history of another site\n\
+             {folder}/{number:06}.journal names another site file than {folder}/site.toml: put \
+             back from a backup the one that was changed, or take out the chapter of another \
+             station"
+        ),
+        _ => eprintln!(rt;
+            "chapter {number} line {line}\n\
+             line {line} of {folder}/{number:06}.journal is torn or was edited, or, if it is a \
+             seal, a line above it: see 'A chapter with a bad line' in OPERATING.md"
+        ),
+    };
+    exit_with(told, FAULT)
 }

@@ -19,7 +19,7 @@ mod site;
 mod walk;
 mod whole_file;
 
-pub use exit::{exit_advised, exit_another_site, exit_folder, exit_history};
+pub use exit::{exit_folder, exit_history};
 pub use fault::FolderFault;
 pub use listing::count_chapters;
 pub use names::{SITE_FILE, chapter_name, chapter_number, path_in};

@@ -89,7 +89,7 @@ fn read_chapters<R: Files + Eprint + AllocGlobal>(
         let text = read_chapter(rt, folder, place + 1, count)?;
         match reader.read_chapter(&text) {
             Ok(_) => {}
-            Err(fault) => return Err(exit_history(rt, fault)),
+            Err(fault) => return Err(exit_history(rt, folder, fault)),
         }
     }
     Ok(())

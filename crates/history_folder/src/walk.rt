@@ -118,10 +118,10 @@ impl FolderWalk {
         ensures config { self.new.reader.book.config ≡ self.old.reader.book.config }
         ensures failed { IfErr result IsFailed }
     {
-        let mut row = self.next_in_chapter(rt)?;
+        let mut row = self.next_in_chapter(rt, folder)?;
         while row.is_none() && self.reader.chapters() < self.count {
             self.begin_chapter(rt, folder)?;
-            row = self.next_in_chapter(rt)?;
+            row = self.next_in_chapter(rt, folder)?;
         }
         Ok(row)
     }
@@ -149,12 +149,12 @@ impl FolderWalk {
                 self.place = WalkPlace::Within;
                 Ok(())
             }
-            Err(fault) => Err(exit_history(rt, fault)),
+            Err(fault) => Err(exit_history(rt, folder, fault)),
         }
     }
 
     /// The next row of the chapter that is being read. None where it has no more, or none is.
-    fn next_in_chapter(&mut self, rt: &impl Eprint) -> Result<Option<Row>, ExitCode>
+    fn next_in_chapter(&mut self, rt: &impl Eprint, folder: &str) -> Result<Option<Row>, ExitCode>
         ensures row { IfOk result (λ row. self.new.reader.book.rows
             ≡ self.old.reader.book.rows ++ cons_option row []) }
         ensures sent { IfOk result (λ row. IfSome row IsSent) }
@@ -167,13 +167,13 @@ impl FolderWalk {
     {
         match self.place {
             WalkPlace::Between => Ok(None),
-            WalkPlace::Within => self.read_row(rt),
+            WalkPlace::Within => self.read_row(rt, folder),
             WalkPlace::Refused => Err(ExitCode::from(FAULT)),
         }
     }
 
     /// The next row of the chapter that is being read. None where it has no more.
-    fn read_row(&mut self, rt: &impl Eprint) -> Result<Option<Row>, ExitCode>
+    fn read_row(&mut self, rt: &impl Eprint, folder: &str) -> Result<Option<Row>, ExitCode>
         requires { self.old.place ≡ WalkPlace.Within }
         ensures row { IfOk result (λ row. self.new.reader.book.rows
             ≡ self.old.reader.book.rows ++ cons_option row []) }
@@ -195,7 +195,7 @@ impl FolderWalk {
             }
             Err(fault) => {
                 self.place = WalkPlace::Refused;
-                Err(exit_history(rt, fault))
+                Err(exit_history(rt, folder, fault))
             }
         }
     }

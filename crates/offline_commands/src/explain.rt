@@ -53,7 +53,10 @@ fn explain_number<R: Print + Eprint>(rt: &R, word: &str) -> ExitCode {
             Err(_) => exit_unwritten(rt),
         },
         None => exit_with(
-            eprintln!(rt; "error: '{word}' is no number of a refusal or fault, and no folder"),
+            eprintln!(rt;
+                "error: '{word}' is no number of a refusal or fault, and no folder that this user \
+                 may enter"
+            ),
             COMMAND_LINE,
         ),
     }

@@ -9,6 +9,7 @@ use crate::exit::{FAULT, exit_fault, exit_no_memory, exit_unwritten, exit_with};
 use site_base::SiteConfig;
 use site_file::{ConfigFault, read_config};
 use site_file_words::explain_fault;
+use std::alloc::{AllocError, Global};
 use std::fs;
 use std::io::{Error, ErrorKind};
 use std::process::ExitCode;
@@ -71,11 +72,8 @@ pub fn read_file<R: Files + Eprint + AllocGlobal>(rt: &R, name: &str) -> Result<
 pub fn exit_unread<R: Eprint + AllocGlobal>(rt: &R, name: &str, error: &Error) -> ExitCode
     ensures { exit_status result ≡ FAULT }
 {
-    match format!(in rt.alloc(); "{error}") {
-        Ok(text) => {
-            let words = without_number(text.as_str());
-            exit_with(eprintln!(rt; "cannot read {name}: {words}"), FAULT)
-        }
+    match words_of(rt.alloc(), error) {
+        Ok(words) => exit_with(eprintln!(rt; "cannot read {name}: {words}"), FAULT),
         Err(_) => exit_with(eprintln!(rt; "cannot read {name}"), FAULT),
     }
 }
@@ -85,23 +83,21 @@ pub fn exit_unread<R: Eprint + AllocGlobal>(rt: &R, name: &str, error: &Error) -
 pub fn exit_unstored<R: Eprint + AllocGlobal>(rt: &R, name: &str, error: &Error) -> ExitCode
     ensures { exit_status result ≡ FAULT }
 {
-    match format!(in rt.alloc(); "{error}") {
-        Ok(text) => {
-            let words = without_number(text.as_str());
-            exit_with(
-                eprintln!(rt; "fault 62\ncannot write {name}: {words}"),
-                FAULT,
-            )
-        }
+    match words_of(rt.alloc(), error) {
+        Ok(words) => exit_with(
+            eprintln!(rt; "fault 62\ncannot write {name}: {words}"),
+            FAULT,
+        ),
         Err(_) => exit_unwritten(rt),
     }
 }
 
 /// The words of an error of the system, without the error's number behind them.
-fn without_number(text: &str) -> &str {
-    match text.split_once(" (os error ") {
-        Some((words, _)) => words,
-        None => text,
+pub fn words_of(alloc: Global, error: &Error) -> Result<String, AllocError> {
+    let text = format!(in alloc; "{error}")?;
+    match text.as_str().split_once(" (os error ") {
+        Some((words, _)) => Ok(String::from_str(alloc, words)?),
+        None => Ok(text),
     }
 }
 

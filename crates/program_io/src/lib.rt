@@ -10,7 +10,9 @@ pub use exit::{
     COMMAND_LINE, FAULT, NO_MEMORY, exit_fault, exit_no_memory, exit_replay, exit_unwritten,
     exit_with,
 };
-pub use files::{exit_unread, exit_unstored, is_folder, read_file, read_site, read_site_file};
+pub use files::{
+    exit_unread, exit_unstored, is_folder, read_file, read_site, read_site_file, words_of,
+};
 pub use lines::read_line;
 
 /// The most read calls and interrupted write calls that a command makes.

@@ -48,8 +48,8 @@ fn explain_toml(
     };
     let mut words = String::new(alloc);
     words.push_str(error.message())?;
-    if is_comma_in_number(octets, span.start) {
-        words.push_str("; a whole number is written without commas")?;
+    if let Some(hint) = hint_at(error.message(), octets, span.start) {
+        write!(words, "; {hint}")?;
     }
     let position = Position::new(octets, span);
     let (line, column) = (position.line, position.column);
@@ -58,11 +58,20 @@ fn explain_toml(
     position.put(text, words.as_str())
 }
 
-/// Does a comma stand here, behind a digit?
-fn is_comma_in_number(octets: &[u8], place: usize) -> bool {
-    match octets.get(place.saturating_sub(1)) {
-        Some(b'0'..=b'9') => octets.get(place).copied() == Some(b','),
-        _ => false,
+/// How what stands here has to be written, which `toml` refuses with this message: a number with a
+/// comma or with a leading zero, or the line above a product or a point with single brackets.
+fn hint_at(message: &str, octets: &[u8], place: usize) -> Option<&'static str> {
+    let before = octets.get(place.wrapping_sub(1)).copied();
+    let after = octets.get(place.saturating_add(1)).copied();
+    match (before, octets.get(place).copied(), after) {
+        (Some(b'0'..=b'9'), Some(b','), _) => Some("a whole number is written without commas"),
+        (_, Some(b'0'), Some(b'0'..=b'9')) => {
+            Some("a whole number is written without leading zeros")
+        }
+        (_, Some(b'['), _) if message == "duplicate key" => {
+            Some("each product and each point stands below a line with two brackets, as [[point]]")
+        }
+        _ => None,
     }
 }
 

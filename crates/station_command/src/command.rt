@@ -10,7 +10,7 @@ ghost use Rattle.program_io.specs.Statuses.{IsFailed};
 ghost use Rattle.station_command.specs.Histories.{IsFound};
 
 use crate::doors::open_doors;
-use crate::ends::exit_station;
+use crate::ends::{DayEnd, exit_station};
 use crate::error_lines::{ErrorLines, Reporting};
 use crate::feed_start::{EarlierRows, read_earlier};
 use crate::found::{FoundHistory, print_found};
@@ -67,6 +67,10 @@ pub fn run_station<
         let needed = "a station needs --port N or --doors FOLDER";
         return exit_with(eprintln!(rt; "error: {needed}"), COMMAND_LINE);
     }
+    if plans.has_port_twice() {
+        let needed = "--port, --page and --feed each need a port of their own";
+        return exit_with(eprintln!(rt; "error: {needed}"), COMMAND_LINE);
+    }
     match open_station(rt, options.site, options.history) {
         Ok((opened, found)) => {
             run_opened(rt, threads, input, errors, opened, found, plans, options)
@@ -95,12 +99,31 @@ impl Plans {
         Ok(Plans { station, house })
     }
 
+    /// Do two of the port, the page's and the feed's have one number? 0 is a free port each time.
+    fn has_port_twice(&self) -> bool {
+        let StationPlan {
+            port,
+            page,
+            feed,
+            ..
+        } = self.station;
+        are_one_port(port, page) || are_one_port(port, feed) || are_one_port(page, feed)
+    }
+
     /// How long a dispenser may be gone, and how long a release may stand.
     fn patience(&self) -> Patience {
         Patience {
             lost_seconds: self.house.lost_seconds,
             release_seconds: self.house.release_seconds,
         }
+    }
+}
+
+/// Are these one port, which isn't to be a free one?
+fn are_one_port(one: Option<u16>, other: Option<u16>) -> bool {
+    match (one, other) {
+        (Some(one), Some(other)) => one == other && one != 0,
+        _ => false,
     }
 }
 
@@ -151,27 +174,31 @@ fn run_opened<
         Ok(lines) => lines,
         Err(fault) => {
             open.sockets.remove(rt);
-            return exit_station(rt, Err(fault), options.history);
+            let day = DayEnd {
+                end: Err(fault),
+                is_stored: true,
+            };
+            return exit_station(rt, day, options.history);
         }
     };
     let reporting = Reporting {
         host: rt,
         lines: &lines,
     };
-    let end = serve_on(
+    let day = serve_on(
         rt, &reporting, threads, input, opened, found, earlier, open.doors, plans, options,
     );
     lines.end(threads);
     open.sockets.remove(rt);
-    exit_station(rt, end, options.history)
+    exit_station(rt, day, options.history)
 }
 
-/// Prints that the house till is to be a till of this number, which is no manager's, and what to do.
-/// Returns the exit status.
+/// Prints that the house till is to be a till of this number, which is no manager's, and what to
+/// do. Returns the exit status.
 fn exit_no_manager(rt: &impl Eprint, number: u8) -> ExitCode
     ensures { IsFailed result }
 {
-    let advice = "name a till of its own among the managers of the site file";
+    let advice = "name a till that nobody uses, and that the site file has among its managers";
     exit_with(eprintln!(rt; "house {number}: no manager\n{advice}"), FAULT)
 }
 
@@ -226,18 +253,24 @@ fn serve_on<R: StationHost, T: Threads + Wait + Sync, I: Read + Send + Drop + 's
     doors: Doors,
     plans: Plans,
     options: StationOptions<'_>,
-) -> Result<(), DayFault>
+) -> DayEnd
     requires alone { opened.station.station
         ≡ opening_station opened.station.station.gates opened.station.station.book }
     requires off { HasNobodyOn opened.station.station.book }
     requires found { IsFound found opened.station.journal }
 {
-    let mut connections = Connections::new(
+    let connections = Connections::new(
         rt.alloc(),
         opened.station,
         plans.station.rate,
         plans.patience(),
-    )?;
+    );
+    let Ok(mut connections) = connections else {
+        return DayEnd {
+            end: Err(DayFault::NoMemory),
+            is_stored: true,
+        };
+    };
     begin_telling(&mut connections, earlier);
     let end = serve_peers(
         rt,
@@ -250,8 +283,9 @@ fn serve_on<R: StationHost, T: Threads + Wait + Sync, I: Read + Send + Drop + 's
         plans,
         options,
     );
+    let is_stored = connections.stored_book().is_some();
     connections.close();
-    end
+    DayEnd { end, is_stored }
 }
 
 /// Listens, and serves a day of the station of these connections, of whose history this was

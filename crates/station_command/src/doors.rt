@@ -6,7 +6,7 @@ ghost use Rattle.std.specs.Prelude.{IfErr};
 
 use device_map::{dispenser, till};
 use mio::net::{UnixListener, UnixStream};
-use program_io::{FAULT, exit_no_memory, exit_unread, exit_with};
+use program_io::{FAULT, exit_no_memory, exit_unread, exit_with, words_of};
 use site_base::{FpNo, NoMemory, TillNo};
 use station::Gates;
 use station_server::Doors;
@@ -59,8 +59,10 @@ enum DoorFault {
     NoNode(String),
     /// Somebody answers at its socket.
     InUse(String),
+    /// Something that is no socket has its name.
+    Taken(String),
     /// It can't be listened at.
-    Deaf(String),
+    Deaf(String, io::Error),
 }
 
 impl From<AllocError> for DoorFault {
@@ -76,10 +78,11 @@ impl From<NoMemory> for DoorFault {
 }
 
 /// What is in the way of listening at a socket.
-#[derive(Clone, Copy, Debug, PartialEq, Eq)]
+#[derive(Drop)]
 enum SocketFault {
     InUse,
-    Deaf,
+    Taken,
+    Deaf(io::Error),
 }
 
 /// Listens at the doors of this folder, if one is given: at the socket of each subfolder that has
@@ -170,7 +173,7 @@ fn list_folders<R: Files + AllocGlobal>(rt: &R, folder: &str) -> Result<Vec<Stri
         match fs::metadata(rt, entry.path()) {
             Ok(found) if !found.is_dir() => {}
             Ok(_) => names.push(name).map_err(|_| DoorFault::NoMemory)?,
-            Err(_) => return Err(DoorFault::Deaf(name)),
+            Err(error) => return Err(DoorFault::Deaf(name, error)),
         }
     }
     Ok(names)
@@ -219,7 +222,8 @@ fn open_door<R: Files<File = File> + Net + AllocGlobal>(
             add_door(name, listener, open)
         }
         Err(SocketFault::InUse) => Err(DoorFault::InUse(name)),
-        Err(SocketFault::Deaf) => Err(DoorFault::Deaf(name)),
+        Err(SocketFault::Taken) => Err(DoorFault::Taken(name)),
+        Err(SocketFault::Deaf(error)) => Err(DoorFault::Deaf(name, error)),
     }
 }
 
@@ -262,27 +266,24 @@ fn listen_at<R: Files + Net>(rt: &R, path: &str) -> Result<UnixListener, SocketF
     match UnixListener::bind(rt, path) {
         Ok(listener) => Ok(listener),
         Err(error) if error.kind() == ErrorKind::AddrInUse => replace_socket(rt, path),
-        Err(_) => Err(SocketFault::Deaf),
+        Err(error) => Err(SocketFault::Deaf(error)),
     }
 }
 
 /// Listens at a socket in the place of one at which nobody answers.
 fn replace_socket<R: Files + Net>(rt: &R, path: &str) -> Result<UnixListener, SocketFault> {
     if !is_socket(rt, path) {
-        return Err(SocketFault::Deaf);
+        return Err(SocketFault::Taken);
     }
     match UnixStream::connect(rt, path) {
         Ok(_) => return Err(SocketFault::InUse),
         Err(error) => match error.kind() {
             ErrorKind::ConnectionRefused => {}
             ErrorKind::WouldBlock => return Err(SocketFault::InUse),
-            _ => return Err(SocketFault::Deaf),
+            _ => return Err(SocketFault::Deaf(error)),
         },
     }
-    match bind_anew(rt, path) {
-        Ok(listener) => Ok(listener),
-        Err(_) => Err(SocketFault::Deaf),
-    }
+    bind_anew(rt, path).map_err(SocketFault::Deaf)
 }
 
 /// Removes what has this name, and listens there.
@@ -305,7 +306,11 @@ fn exit_door<R: Eprint + AllocGlobal>(rt: &R, folder: &str, fault: &DoorFault) -
 {
     match fault {
         DoorFault::NoMemory => exit_no_memory(rt),
-        DoorFault::Unread(error) => exit_unread(rt, folder, error),
+        DoorFault::Unread(error) => {
+            let status = exit_unread(rt, folder, error);
+            let _ = eprintln!(rt; "give --doors a folder that this user may list");
+            status
+        }
         DoorFault::NoNode(name) => exit_with(
             eprintln!(rt;
                 "door {name}: no node\n\
@@ -314,16 +319,41 @@ fn exit_door<R: Eprint + AllocGlobal>(rt: &R, folder: &str, fault: &DoorFault) -
             FAULT,
         ),
         DoorFault::InUse(name) => exit_with(
-            eprintln!(rt; "door {name}: in use\nstop the station that has these doors"),
+            eprintln!(rt; "door {name}: in use\nstop the station that has the doors in {folder}"),
             FAULT,
         ),
-        DoorFault::Deaf(name) => exit_with(
+        DoorFault::Taken(name) => exit_with(
             eprintln!(rt;
                 "door {name}: cannot listen\n\
-                 see that this user may write to the folder, that its path is short, and that \
-                 socket is nothing else there"
+                 {folder}/{name}/socket is no socket: take it out"
             ),
             FAULT,
         ),
+        DoorFault::Deaf(name, error) => exit_deaf(rt, folder, name.as_str(), error),
     }
+}
+
+/// Prints that the station can't listen at the door of this name, and why, in the system's words.
+fn exit_deaf<R: Eprint + AllocGlobal>(
+    rt: &R,
+    folder: &str,
+    name: &str,
+    error: &io::Error,
+) -> ExitCode
+    ensures { IsFailed result }
+{
+    let words = words_of(rt.alloc(), error);
+    let why = match &words {
+        Ok(words) => words.as_str(),
+        Err(_) => "memory ran out",
+    };
+    exit_with(
+        eprintln!(rt;
+            "door {name}: cannot listen\n\
+             {folder}/{name}/socket: {why}: see that this user may write there, that the disk may \
+             be written, that the path has at most 107 octets, and that more files may be open \
+             (ulimit -n)"
+        ),
+        FAULT,
+    )
 }

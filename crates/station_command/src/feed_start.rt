@@ -89,7 +89,14 @@ fn read_history<R: Files + Eprint + AllocGlobal>(
         Err(status) => return Err(status),
     }
     if reader.count != count {
-        return Err(exit_with(eprintln!(rt; "cannot read {folder}"), FAULT));
+        return Err(exit_with(
+            eprintln!(rt;
+                "cannot read {folder}\n\
+                 its rows changed while the station started: see that no other program writes \
+                 there, and start again"
+            ),
+            FAULT,
+        ));
     }
     Ok(reader.end())
 }

@@ -18,7 +18,9 @@ pub enum FoundHistory {
 pub fn print_found<R: Print + Eprint>(rt: &R, found: FoundHistory) -> Result<(), DayFault> {
     let printed = match found {
         FoundHistory::NoFolder => {
-            let _ = eprintln!(rt; "nothing is kept");
+            let _ = eprintln!(rt;
+                "nothing is kept\nwithout --history FOLDER a crash or a power cut loses the day"
+            );
             Ok(())
         }
         FoundHistory::New => println!(rt; "history new"),

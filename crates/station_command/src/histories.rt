@@ -16,7 +16,7 @@ use crate::found::FoundHistory;
 use crate::station_site::{history_site, read_station_site};
 use chapters::site_name;
 use history_files::{FileFault, HistoryDisk, HistoryFolder};
-use history_folder::{FolderFault, exit_advised, exit_folder, exit_history, path_in};
+use history_folder::{FolderFault, exit_folder, exit_history, path_in};
 use journal::{OpenFault, Opened, StoredStation, open_journal};
 use program_io::{COMMAND_LINE, FAULT, exit_no_memory, exit_unread, exit_unstored, exit_with};
 use site_base::SiteConfig;
@@ -25,6 +25,9 @@ use std::fs::File;
 use std::io::{Error, ErrorKind};
 use std::process::ExitCode;
 use std::rt::{Clock, Files};
+
+/// What to do if the name of a history's folder is something else's, or nobody's.
+const NAME_A_FOLDER: &str = "name a folder, or a place where one can be made";
 
 /// Opens the station with the history in this folder, or one without a history on the site of this
 /// file. Returns what was found of the history too. On an error, prints it and returns the exit
@@ -171,7 +174,7 @@ pub fn exit_file<R: Eprint + AllocGlobal>(rt: &R, name: &str, fault: FileFault) 
 {
     match fault {
         FileFault::NoMemory => exit_no_memory(rt),
-        FileFault::Unread(error) => exit_unread(rt, name, &error),
+        FileFault::Unread(error) => exit_unopenable(rt, name, &error),
         FileFault::NoFile => {
             exit_with(
                 eprintln!(rt; "cannot read {name}: not a regular file"),
@@ -194,15 +197,35 @@ pub fn exit_file<R: Eprint + AllocGlobal>(rt: &R, name: &str, fault: FileFault) 
             FAULT,
         ),
         FileFault::Unmade(error) => exit_unmade(rt, name, &error),
-        FileFault::InUse => exit_advised(
-            rt,
-            "history in use",
-            "stop the station that has the folder, and print into none of its files",
+        FileFault::InUse => exit_with(
+            eprintln!(rt;
+                "history in use\n\
+                 stop the station that has {name} (fuser -v {name}/lock shows who has it locked), \
+                 and print into none of its files"
+            ),
+            FAULT,
         ),
         FileFault::Untold => ExitCode::from(FAULT),
         FileFault::Unwritten(error) => exit_unstored(rt, name, &error),
         FileFault::Missing(number) => exit_folder(rt, name, FolderFault::Missing(number)),
     }
+}
+
+/// Prints why a history's folder, or a file in it, can't be opened or locked, and below it what to
+/// look at. Returns the exit status.
+fn exit_unopenable<R: Eprint + AllocGlobal>(rt: &R, name: &str, error: &Error) -> ExitCode
+    ensures { IsFailed result }
+{
+    let status = exit_unread(rt, name, error);
+    let advice = match error.kind() {
+        ErrorKind::NotFound | ErrorKind::NotADirectory | ErrorKind::FilesystemLoop => NAME_A_FOLDER,
+        _ => {
+            "see that this user owns the history's folder and each file in it, that more files may \
+             be open (ulimit -n), and that the disk may be written"
+        }
+    };
+    let _ = eprintln!(rt; "{advice}");
+    status
 }
 
 /// Prints why a history's folder isn't there and can't be made, and below it what to do, if
@@ -211,15 +234,15 @@ fn exit_unmade<R: Eprint + AllocGlobal>(rt: &R, name: &str, error: &Error) -> Ex
     ensures { IsFailed result }
 {
     let status = exit_unread(rt, name, error);
-    if matches!(
-        error.kind(),
-        ErrorKind::NotFound | ErrorKind::PermissionDenied
-    ) {
-        let _ = eprintln!(rt;
-            "the folder can't be made: the one above it must exist, and this user must be allowed \
-             to write there"
-        );
-    }
+    let advice = match error.kind() {
+        ErrorKind::NotFound | ErrorKind::PermissionDenied => {
+            "see that the folder above it exists, that this user may enter it, and, if the folder \
+             is new, may write there"
+        }
+        ErrorKind::NotADirectory | ErrorKind::FilesystemLoop => NAME_A_FOLDER,
+        _ => return status,
+    };
+    let _ = eprintln!(rt; "{advice}");
     status
 }
 
@@ -233,16 +256,19 @@ fn exit_unopened(rt: &impl Eprint, name: &str, fault: OpenFault) -> ExitCode
             eprintln!(rt;
                 "cannot read {name}\n\
                  a chapter can't be read or flushed: see that each is a file that this user may \
-                 read, and whether the disk fails"
+                 read (forecourt verify {name} names one that isn't), and whether the disk fails"
             ),
             FAULT,
         ),
-        OpenFault::Unwritten => exit_advised(
-            rt,
-            "fault 62",
-            "the last chapter can't be written: see whether the disk is full or fails, that this \
-             user may write to the folder, and that nothing in it but a file is called *.starting",
+        OpenFault::Unwritten => exit_with(
+            eprintln!(rt;
+                "fault 62\n\
+                 the last chapter in {name} can't be written: see whether the disk is full or \
+                 fails, that this user may write to the folder, and that nothing in it but a file \
+                 is called *.starting"
+            ),
+            FAULT,
         ),
-        OpenFault::Refused(fault) => exit_history(rt, fault),
+        OpenFault::Refused(fault) => exit_history(rt, name, fault),
     }
 }

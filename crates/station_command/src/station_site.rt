@@ -7,7 +7,7 @@ ghost use Rattle.site_file.specs.SiteFile.{config_of};
 
 use crate::histories::{exit_file, path_of};
 use history_files::HistoryFolder;
-use history_folder::{SITE_FILE, exit_advised, exit_another_site, site_in_folder};
+use history_folder::{SITE_FILE, site_in_folder};
 use journal::LEAST_ROWS;
 use program_io::{FAULT, exit_with, read_site_file};
 use site_base::SiteConfig;
@@ -29,10 +29,14 @@ pub fn read_station_site<R: Files + Eprint + AllocGlobal>(
 {
     let (config, site_file) = read_site_file(rt, name)?;
     if has_few_rows(&config) {
-        return Err(exit_advised(
-            rt,
-            "fault 74 rows",
-            "rows is at least 1024 for a station: raise it in the site file, or leave it out",
+        return Err(exit_with(
+            eprintln!(rt;
+                "fault 74 rows\n\
+                 rows is {}, and at least {LEAST_ROWS} for a station: raise it in {name}, or leave \
+                 it out",
+                config.rows()
+            ),
+            FAULT,
         ));
     }
     Ok((config, site_file))
@@ -61,7 +65,7 @@ pub fn history_site<R: Files<File = File> + Eprint + AllocGlobal>(
 {
     let path = path_of(rt, name, SITE_FILE)?;
     match folder.site_file() {
-        Ok(Some(octets)) => kept_site(rt, octets, site),
+        Ok(Some(octets)) => kept_site(rt, path.as_str(), octets, site),
         Ok(None) => first_site(rt, folder, path.as_str(), site),
         Err(fault) => Err(exit_file(rt, path.as_str(), fault)),
     }
@@ -99,18 +103,20 @@ fn exit_without_site(rt: &impl Eprint, path: &str, chapters: u64) -> ExitCode
     ensures { IsFailed result }
 {
     let advice = if chapters == 0 {
-        "if this is the first start, give a site file: forecourt station FILE --history FOLDER ..; \
-         otherwise see that the folder's name is right, and that its disk is mounted"
+        "if this is the first start, give a site file: forecourt station FILE --history FOLDER .., \
+         or put it there, as a file of the station's user; otherwise see that the folder's name is \
+         right, and that its disk is mounted"
     } else {
         "the history has lost its site file: put it back from a backup"
     };
     exit_with(eprintln!(rt; "cannot read {path}\n{advice}"), FAULT)
 }
 
-/// The site that the octets of a folder's site file say, with them, or how the program ends: they
-/// have a fault, or say another site than the file that is given, if one is.
+/// The site that the octets of a folder's site file say, whose path this is, with them, or how the
+/// program ends: they have a fault, or say another site than the file that is given, if one is.
 fn kept_site<R: Files + Eprint + AllocGlobal>(
     rt: &R,
+    path: &str,
     octets: Vec<u8>,
     site: Option<&str>,
 ) -> Result<(SiteConfig, Vec<u8>), ExitCode>
@@ -120,28 +126,34 @@ fn kept_site<R: Files + Eprint + AllocGlobal>(
     ensures failed { IfErr result IsFailed }
 {
     let Some(site) = site else {
-        let config = read_kept(rt, &octets)?;
+        let config = read_kept(rt, path, &octets)?;
         return Ok((config, octets));
     };
     let (given, _) = read_station_site(rt, site)?;
-    let config = read_kept(rt, &octets)?;
-    check_same(rt, &config, &given)?;
+    let config = read_kept(rt, path, &octets)?;
+    check_same(rt, &config, path, &given, site)?;
     Ok((config, octets))
 }
 
-/// The site that the octets of a folder's site file say, or how the program ends.
-fn read_kept<R: Eprint + AllocGlobal>(rt: &R, octets: &[u8]) -> Result<SiteConfig, ExitCode>
+/// The site that the octets of a folder's site file say, whose path this is, or how the program
+/// ends.
+fn read_kept<R: Eprint + AllocGlobal>(
+    rt: &R,
+    path: &str,
+    octets: &[u8],
+) -> Result<SiteConfig, ExitCode>
     ensures read { IfOk result (λ config. config_of octets.now ≡ Ok config) }
     ensures rows { IfOk result (λ config. LEAST_ROWS ≤ config.rows) }
     ensures failed { IfErr result IsFailed }
 {
-    let config = site_in_folder(rt, octets)?;
+    let config = site_in_folder(rt, path, octets)?;
     if has_few_rows(&config) {
         return Err(exit_with(
             eprintln!(rt;
                 "{SITE_FILE}: fault 74 rows\n\
-                 rows is at least 1024 for a station: if one has run on this file, put it back \
-                 from a backup, otherwise raise it"
+                 rows in {path} is {}, and at least {LEAST_ROWS} for a station: if one has run on \
+                 this file, put it back from a backup, otherwise raise it",
+                config.rows()
             ),
             FAULT,
         ));
@@ -149,15 +161,28 @@ fn read_kept<R: Eprint + AllocGlobal>(rt: &R, octets: &[u8]) -> Result<SiteConfi
     Ok(config)
 }
 
-/// Fails where a history's site isn't the one that is given: says so, and how the program ends.
-fn check_same<R: Eprint>(rt: &R, config: &SiteConfig, given: &SiteConfig) -> Result<(), ExitCode>
+/// Fails where the site of a history, whose site file has this path, isn't the one that is given by
+/// the file of this name: says so, and what to do.
+fn check_same(
+    rt: &impl Eprint,
+    config: &SiteConfig,
+    path: &str,
+    given: &SiteConfig,
+    name: &str,
+) -> Result<(), ExitCode>
     ensures same { OnOk result (config.now ≡ given.now) }
     ensures another { OnErr result (config.now ≢ given.now) }
     ensures failed { IfErr result IsFailed }
 {
     if is_same_site(config, given) {
-        Ok(())
-    } else {
-        Err(exit_another_site(rt))
+        return Ok(());
     }
+    Err(exit_with(
+        eprintln!(rt;
+            "history of another site\n\
+             {name} describes another site than {path}: leave it out, or give the file with which \
+             the history began"
+        ),
+        FAULT,
+    ))
 }

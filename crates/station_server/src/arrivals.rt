@@ -249,7 +249,10 @@ impl StationServer {
         self.is_refused = true;
         if !self.has_told {
             self.has_told = true;
-            let _ = eprintln!(rt; "cannot accept: {error}; it is tried again each second");
+            let _ = eprintln!(rt;
+                "cannot accept: {error}; it is tried again each second; let more files be open \
+                 (ulimit -n, LimitNOFILE)"
+            );
         }
     }
 

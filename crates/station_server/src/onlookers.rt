@@ -76,7 +76,9 @@ impl StationServer {
             Some(fed) => feeds.serve(self.poll.registry(), fed.rows(), fed.starts(), now),
             None => {
                 self.feeds = None;
-                let _ = eprintln!(rt; "the feed has ended: out of memory");
+                let _ = eprintln!(rt;
+                    "the feed has ended: out of memory; the next start begins it again"
+                );
             }
         }
     }
