@@ -9,7 +9,7 @@ help:
 	@echo 'make run      compiles the program without proof and runs it on the three stored messages'
 	@echo 'make build    proves and builds the program: $(PROGRAM)'
 	@echo 'make check    proves every crate, lowest first'
-	@echo 'make smoke    builds without proof, and runs every test of programs: not the gate'
+	@echo 'make smoke    builds without proof, and runs every test: not the gate'
 	@echo 'make test     the gate: the layers of the crates, every proof that is not kept, the'
 	@echo '              mutants of the gate, every test, and the built programs on their tables'
 	@echo '              and cases, with allocations and devices that fail; scripts/test runs one'

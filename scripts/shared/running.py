@@ -5,9 +5,12 @@ import os
 import pathlib
 import re
 import resource
+import signal
 import subprocess
 import sys
 import typing
+
+from shared.checks import UNCONNECTED
 
 SCRIPTS = pathlib.Path(__file__).resolve().parent.parent
 TOP = SCRIPTS.parent
@@ -33,9 +36,13 @@ def close_input():
     os.close(0)
 
 
+# The status of a program that SIGPIPE ends.
+CLOSED_PIPE = 128 + signal.SIGPIPE
+
+
 def run(*command, given=b"", sink=None, **how):
     """Runs a command on octets or on a file; its standard output goes to the file `sink` where
-    there is one."""
+    there is one, by its name or descriptor."""
     command = [os.fspath(word) if isinstance(word, os.PathLike) else word for word in command]
     how = {"timeout": PATIENCE, "stderr": subprocess.PIPE, **how}
     with contextlib.ExitStack() as files:
@@ -46,6 +53,13 @@ def run(*command, given=b"", sink=None, **how):
         how["stdout"] = files.enter_context(open(sink, "wb")) if sink else subprocess.PIPE
         end = subprocess.run(command, **how)
     return End(end.returncode, end.stdout or b"", end.stderr.decode(errors="replace"))
+
+
+def run_unread(*command, given=b""):
+    """Runs a command of whose output the reader has closed the pipe."""
+    gone, output = os.pipe()
+    os.close(gone)
+    return run(*command, given=given, sink=output)
 
 
 def measure(*command, given=os.devnull, sink=os.devnull):
@@ -64,8 +78,11 @@ def measure(*command, given=os.devnull, sink=os.devnull):
 def tell_deaf(port):
     """What a program says that can't listen on a port, or with 0 on a free one."""
     if port == 0:
-        return "fault 63\n"
-    why = "another program may do so, or this user may not"
+        return UNCONNECTED
+    why = (
+        "another program has it (see ss -ltnp), this user may not, or too few files may be open"
+        " (ulimit -n)"
+    )
     return f"fault 63\ncannot listen on port {port}: {why}\n"
 
 

@@ -17,7 +17,8 @@ import typing
 from shared.checks import Failed, expect
 from shared.station import connect, read_point, receive_all
 
-UNKEPT = "nothing is kept\n"  # what a station without a history says on standard error
+# What a station without a history says on standard error.
+UNKEPT = "nothing is kept\nwithout --history FOLDER a crash or a power cut loses the day\n"
 DOORS_LINE = "listening at doors\n"  # of a station that listens on no port
 WAIT = 60  # seconds, for what comes at once if all is well
 LOOK = 0.01  # seconds between two looks at what is waited for

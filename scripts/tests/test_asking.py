@@ -3,13 +3,14 @@ are printed in words. What is expected is in docs/PROGRAM.md: Requests in words,
 Ends of the program."""
 
 import contextlib
+import os
 import socket
 import subprocess
 import threading
 import time
 
-from shared.checks import Skipped, expect, expect_end
-from shared.running import close_input, run
+from shared.checks import NOT_PRINTED, Skipped, advised, expect, expect_end
+from shared.running import CLOSED_PIPE, close_input, run, run_unread
 from shared.serving import start_day
 from shared.station import KNOWN_SITE
 from tests.built import PROGRAM
@@ -17,10 +18,13 @@ from tests.suite import make_folder, test, test_beside
 
 HERE = make_folder()
 LOOK = "see whether the request was done before you ask again"
-NOBODY = f"the station closed the connection before it replied: {LOOK}"
+NOBODY = (
+    f"the station closed the connection before it replied: {LOOK}, and that this isn't the port of"
+    " a page or a feed"
+)
 BARRED = (
-    "the session has ended: its lines are of one till or dispenser, which asks at its door if it"
-    " has one; nobody asks as the house till"
+    "the session has ended: give the lines of one till or dispenser alone, ask at its door if it"
+    " has one, and not as the house till"
 )
 SILENT = f"no reply came within 30 seconds: {LOOK}"
 NOBODY_ELSE = 65_534  # a user who has nothing
@@ -32,11 +36,12 @@ def start_station(*words):
     return start_day([*map(str, command)], rate=None, stdin=-1, umask=0)
 
 
-def end(day):
-    """The report of a day whose standard input is closed."""
+def end(day, told=None):
+    """The report of a day whose standard input is closed, and that told this on standard error, or
+    with None whatever it told."""
     day.process.stdin.close()
     day.process.stdin = None
-    return day.report(None)
+    return day.report(told)
 
 
 def ask(lines, *words, **how):
@@ -206,15 +211,31 @@ def start_mute(answer):
 
 
 @test
+def nobody_reads_what_it_says():
+    """The reader of its output has closed the pipe, or its output or standard error is closed: a
+    request is done, and the station is sent nothing else."""
+    with start_station("--port", 0) as day:
+        lines = b"t1 SignOn\nt1 Open 1\n"
+        unread = run_unread(PROGRAM, "ask", "--port", str(day.port), given=lines)
+        expect_end("nobody reads", unread, CLOSED_PIPE)
+        no_output = ask("t1 SignOn\n", "--port", day.port, preexec_fn=lambda: os.close(1))
+        expect_end("no output", no_output, 1, b"", NOT_PRINTED)
+        lines = "t1 SignOn\nt1 Open\n"
+        no_errors = ask(lines, "--port", day.port, preexec_fn=lambda: os.close(2))
+        expect_end("no standard error", no_errors, 1, told("to t1, token 1: Done"))
+        expect("SignOn, and SignOff as the session ends", end(day, "").splitlines()[0], "rows 6")
+
+
+@test
 def what_is_no_request():
     with start_station("--port", 0) as day:
         why = "line 2: word 3 is missing: a fuelling point, 1 to 64"
         end_of_it = ask("t1 SignOn\nt1 Open\nt1 Open 1\n", "--port", day.port)
         expect_end("a word is missing", end_of_it, 1, told("to t1, token 1: Done"), why)
         end_of_it = ask("#" + " " * 65_536, "--port", day.port)
-        expect_end("too long", end_of_it, 1, b"", "line 1: too long")
+        expect_end("too long", end_of_it, 1, b"", advised("line 1: too long"))
         end_of_it = ask(None, "--port", day.port, preexec_fn=close_input)
-        expect_end("without standard input", end_of_it, 1, b"", "fault 61")
+        expect_end("without standard input", end_of_it, 1, b"", advised("fault 61"))
         end(day)
 
 
@@ -225,8 +246,17 @@ def where_no_station_is():
     why = f"nobody listens on port {free}: start the station, or name its port"
     expect_end("a free port", ask("t1 SignOn\n", "--port", free), 1, b"", why)
     path = HERE / "nobody"
-    why = f"nobody listens at {path}: start the station with this door"
+    why = f"there is no {path}: name one door, as doors/till-01, of a station that runs"
     expect_end("no door", ask("t1 SignOn\n", "--door", path), 1, b"", why)
+    path.write_text("no socket\n")
+    why = f"nobody listens at {path}: start the station with this door"
+    expect_end("a file", ask("t1 SignOn\n", "--door", path), 1, b"", why)
+    path = HERE / ("x" * 200)
+    why = (
+        f"cannot connect to {path}: see that it is a door's socket, and that its path has at most"
+        " 107 octets"
+    )
+    expect_end("a long path", ask("t1 SignOn\n", "--door", path), 1, b"", why)
 
 
 @test
@@ -252,10 +282,11 @@ def a_door_of_another_user():
 def wrong_options():
     path = HERE / "nobody"
     for words in ((), ("--port", 1, "--door", path)):
-        expect_end("one is wanted", ask("", *words), 2, b"", "one of --port and --door is wanted")
+        why = "error: ask needs --port N or --door PATH, and not both"
+        expect_end(f"{len(words) // 2} places", ask("", *words), 2, b"", why)
     for port in ("0", "65536", "+80", "-1", "x", ""):
-        wrong = ask("", f"--port={port}")
-        expect_end(f"port {port}", wrong, 2, b"", "--port is a decimal number from 1 to 65535")
+        why = "error: --port is a decimal number from 1 to 65535"
+        expect_end(f"port {port}", ask("", f"--port={port}"), 2, b"", why)
 
 
 @contextlib.contextmanager

@@ -8,7 +8,7 @@
 
 import os
 
-from shared.checks import NO_FILE, expect, expect_end, first_line
+from shared.checks import NO_FILE, NOT_PRINTED, advised, expect, expect_end, first_line
 from shared.running import CRATES, EXAMPLES, compile_c, run
 from shared.station import FIVE_POINTS
 from tests.built import PROGRAM
@@ -79,13 +79,19 @@ def faulty_files():
     end = end._replace(err=first_line(end.err))
     expect_end("the site first", end, 1, b"", "fault 70")
     expect("no words for a script", run_demo(FIVE_POINTS).status, 2)
-    for name, text, line in (
-        ("an empty script", "", 0),
-        ("no section", SIGN_ON, 1),
-        ("a faulty line", SIGN_ON + "till\nlift 1\n", 3),
-        ("point 65", "dispenser 65 1\n", 1),
+    for name, before, text, line in (
+        ("an empty script", "", "", 0),
+        ("no section", "", SIGN_ON, 1),
+        ("a faulty line", SIGN_ON + "till\n", "lift 1\n", 3),
+        ("point 65", "", "dispenser 65 1\n", 1),
     ):
-        expect_end(name, run_demo(FIVE_POINTS, write(text)), 1, b"", f"script line {line}")
+        said = advised(f"script line {line}", text=text)
+        expect_end(name, run_demo(FIVE_POINTS, write(before + text)), 1, b"", said)
+    octets = HERE / "octets"
+    for line in (b"\xff", b"till 1\x1b[2J"):
+        octets.write_bytes(line + b"\n")
+        said = advised("script line 1", text="")
+        expect_end(f"{line} isn't shown", run_demo(FIVE_POINTS, octets), 1, b"", said)
 
 
 @test_each
@@ -109,7 +115,7 @@ def ends():
         end = run_demo(small, write(full), *words)
         expect("a full book", pick_lines(end, 1, 1), (0, ["rows 3"], ["shares 2 settled"]))
     end = run_demo(FIVE_POINTS, write(SIGN_ON + "till\n"), sink="/dev/full")
-    expect_end("an output that takes nothing", end, 1, b"", "fault 62")
+    expect_end("an output that takes nothing", end, 1, b"", NOT_PRINTED)
     # With loopback and no till there is nobody to serve.
     end = run_demo(FIVE_POINTS, write("dispenser 1 1\noffline\n"), "--loopback")
     expect("no till over loopback", pick_lines(end), (0, ["rows 1"], []))

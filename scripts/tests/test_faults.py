@@ -52,7 +52,10 @@ import threading
 import time
 import typing
 
-from shared.checks import CHAPTER_UNREAD, NOT_PRINTED, NOT_WRITTEN, Failed, expect, unstored
+from shared.checks import (
+    NO_MEMORY, NO_NEW_CHAPTER, NO_THREAD, NOT_PRINTED, OPEN_IT, UNACCEPTED, UNCONNECTED, Failed,
+    advised, chapter_unread, expect, unprinted, unstored, unwritten,
+)  # fmt: skip
 from shared.histories import (
     LOCK_FILE, SITE_FILE, check_chapters, find_untold, first_lines, is_read, list_chapters,
     read_chapters, read_rows, retitle, split_messages, whole_lines, without_marks, write_chapters,
@@ -80,15 +83,16 @@ COPY = "000001.journal.starting"
 FAILED = "Input/output error"  # the system's words on a call that fails
 NO_ROOM, NO_LOCK = "No space left on device", "No locks available"  # .. on a write, on a lock
 # What a station says of its history as it starts: of a flush that fails of what it reads; of its
-# folder, which it can't flush; of its site file or chapter, which it can't write; and of a file that
-# isn't locked or opened.
-SITE_UNREAD = f"cannot read {HISTORY}/site.toml: {FAILED}"
-UNFLUSHED = f"cannot read {HISTORY}\n{CHAPTER_UNREAD}", SITE_UNREAD
+# folder, which it can't flush; of its site file or chapter, which it can't write; and of a file
+# that isn't locked or opened.
+NOT_WRITTEN = unwritten(HISTORY)
+SITE_UNREAD = f"cannot read {HISTORY}/site.toml: {FAILED}\n{OPEN_IT}"
+UNFLUSHED = chapter_unread(HISTORY), SITE_UNREAD
 FOLDER_UNFLUSHED = f"fault 62\ncannot write {HISTORY}: {FAILED}"
 SITE_UNWRITTEN = [
     f"fault 62\ncannot write {HISTORY}/site.toml: {why}" for why in (FAILED, NO_ROOM, NO_LOCK)
 ]
-UNLOCKED, UNREAD = (f"cannot read {HISTORY}: {why}" for why in (NO_LOCK, FAILED))
+UNLOCKED, UNREAD = (f"cannot read {HISTORY}: {why}\n{OPEN_IT}" for why in (NO_LOCK, FAILED))
 # .. by the call that fails.
 STARTS = {
     "FAIL_JOURNAL_WRITE": [NOT_WRITTEN, SITE_UNWRITTEN[1]],
@@ -99,8 +103,8 @@ STARTS = {
     "FAIL_LOCK": [NOT_WRITTEN, SITE_UNWRITTEN[2], UNLOCKED],
     "FAIL_ALLOCATION": [],
 }
-# .. and once it has started.
-NOT_STORED = unstored(HISTORY)
+# .. and once it has started: where a row isn't stored, and where each is.
+NOT_STORED, NOT_SEALED = unstored(HISTORY), unprinted(HISTORY)
 
 
 class Place:
@@ -435,9 +439,8 @@ def fail_allocations_of_program():
             end, met = PLACE.run(command, source, FAIL_ALLOCATION=n)
             if not met and end != whole:
                 raise Failed(f"{name}: not the same twice")
-            is_front = (end.status, end.err.strip()) == (4, "fault 31") and whole.out.startswith(
-                end.out
-            )
+            is_ended = (end.status, end.err) == (4, NO_MEMORY)
+            is_front = is_ended and whole.out.startswith(end.out)
             if met and end != whole and not is_front and not is_unexplained(words, end, whole):
                 raise Failed(f"{name} with allocation {n} failed: {end}")
             return met
@@ -482,7 +485,7 @@ class Command:
     def limit_output(self, most):
         """An output of so many octets takes those, and then none."""
         end, met = self.run(TAKE_ALL=most)
-        wanted = (1, self.whole.out[:most], "fault 62") if len(
+        wanted = (1, self.whole.out[:most], NOT_PRINTED) if len(
             self.whole.out
         ) > most else self.whole
         if met != (len(self.whole.out) > most) or (*end[:2], end.err.strip()) != (
@@ -499,8 +502,8 @@ def fail_devices_of_program():
     for source in sources:
         command = Command([], source)
         length = len(command.whole.out)
-        runs += command.fail_calls("FAIL_READ", "fault 61")
-        runs += command.fail_calls("FAIL_WRITE", "fault 62", length > 0)
+        runs += command.fail_calls("FAIL_READ", advised("fault 61"))
+        runs += command.fail_calls("FAIL_WRITE", NOT_PRINTED, length > 0)
         for most in (1, 5, 33):
             runs += command.expect_same(length > 2 * most, SHORT_WRITE=most)
             runs += command.expect_same(SHORT_WRITE=most, INTERRUPT=1)
@@ -523,8 +526,8 @@ def fail_devices_of_files():
         if reads_file:
             runs += command.fail_calls("FAIL_FILE_READ", f"cannot read {words[1]}: {FAILED}")
         if reads_input:
-            runs += command.fail_calls("FAIL_READ", "fault 61")
-        runs += command.fail_calls("FAIL_WRITE", "fault 62", len(command.whole.out) > 0)
+            runs += command.fail_calls("FAIL_READ", advised("fault 61"))
+        runs += command.fail_calls("FAIL_WRITE", NOT_PRINTED, len(command.whole.out) > 0)
         runs += command.expect_same(INTERRUPT=1)
     return runs
 
@@ -551,7 +554,7 @@ def fail_devices_of_readings():
         runs += count_some_in_turn(command.name, one)
         if not command.whole.out:
             raise Failed(f"{command.name} prints nothing")
-        runs += command.fail_calls("FAIL_WRITE", "fault 62")
+        runs += command.fail_calls("FAIL_WRITE", NOT_PRINTED)
         runs += command.expect_same(INTERRUPT=1)
         runs += command.expect_same(len(command.whole.out) > 100, SHORT_WRITE=100)
         runs += sum(map(command.limit_output, (0, 1, 100)))
@@ -603,7 +606,7 @@ def fail_allocations_of_server():
         if status == 0:
             is_well = err == "" and got is not None and ANY_DAY.fullmatch(report)
         else:
-            is_well = status == 4 and err == "fault 31\n" and report == ""
+            is_well = status == 4 and err == NO_MEMORY and report == ""
         if not is_front or not is_well:
             end = f"status {status}, '{err}', '{report}', {got}"
             raise Failed(f"the server with allocation {n} failed: {end}")
@@ -621,9 +624,9 @@ def fail_devices_of_server():
     whole = PLACE.serve()
     if whole[:1] + whole[2:] != (0, "", REPLIES[0], False) or not WHOLE_DAY.fullmatch(whole[1]):
         raise Failed(f"the server: {whole}")
-    if PLACE.serve(FAIL_WRITE=1) != (1, "", "fault 62\n", None, True):
+    if PLACE.serve(FAIL_WRITE=1) != (1, "", f"{NOT_PRINTED}\n", None, True):
         raise Failed("the server: its line wasn't written, and it went on")
-    if PLACE.serve(FAIL_WRITE=2) != (1, "", "fault 62\n", REPLIES[0], True):
+    if PLACE.serve(FAIL_WRITE=2) != (1, "", f"{NOT_PRINTED}\n", REPLIES[0], True):
         raise Failed("the server: its report wasn't written, and it didn't say so")
     changed = (
         {"SHORT_WRITE": 5}, {"INTERRUPT": 1}, {"SHORT_WRITE": 1, "INTERRUPT": 1}, {"SHORT_SEND": 5},
@@ -674,7 +677,7 @@ def fail_connections_of_server():
 def is_well_without_memory(got):
     """Whether a station of which one allocation failed ended as it may."""
     if got.status != 0:
-        return (got.report, got.status, got.err) in (("", 4, "fault 31\n"), ("", 1, "fault 64\n"))
+        return (got.report, got.status, got.err) in (("", 4, NO_MEMORY), ("", 1, NO_THREAD))
     is_till_well = any(text.startswith(got.till) for text in REPLIES)
     is_pump_well = any(text.startswith(got.pump) for text in PUMP_REPLIES)
     are_whole = (got.till in REPLIES) + (got.pump in PUMP_REPLIES)
@@ -713,10 +716,9 @@ def fail_devices_of_station():
         expect(kind, PLACE.station(**{kind: 1}),
                        WHOLE_STATION._replace(**nobody, err=tell_deaf(0)))  # fmt: skip
     expect("no thread", PLACE.station(FAIL_THREAD=1),
-                   WHOLE_STATION._replace(**nobody, err="fault 64\n"))  # fmt: skip
-    deaf = "cannot accept: Too many open files (os error 24); it is tried again each second\n"
+                   WHOLE_STATION._replace(**nobody, err=NO_THREAD))  # fmt: skip
     expect("no connection", PLACE.station(FAIL_ACCEPT=1),
-                   WHOLE_STATION._replace(err=deaf, met=True))  # fmt: skip
+                   WHOLE_STATION._replace(err=UNACCEPTED, met=True))  # fmt: skip
     changed = (
         {"SHORT_WRITE": 5}, {"INTERRUPT": 1}, {"SHORT_WRITE": 1, "INTERRUPT": 1},
         {"SHORT_SEND": 5}, {"SHORT_SEND": 1, "INTERRUPT": 1},
@@ -810,7 +812,8 @@ def fail_histories_of_station():
                     end = (got.end.status, got.end.report, got.end.err, got.end.met)
                     # Where only the seal at the day's end isn't there, each row and the report are.
                     report = whole.report if got.plain == [text] else ""
-                    says = [NOT_STORED] if got.found else STARTS[kind]
+                    ended = NOT_SEALED if report else NOT_STORED
+                    says = [ended] if got.found else STARTS[kind]
                     wanted = [(1, report, f"{fault}\n", True) for fault in says]
                     expect(f"{faults}: {end}", end in wanted, True)
                     return True
@@ -868,7 +871,6 @@ def flush_what_is_told_of_a_folder():
 # Till 1, a manager, closes the shift; then till 2 opens a point.
 CLOSED = sign_on(1) + ask_site(1, CLOSE_SHIFT, 0)
 AFTER_CLOSE = sign_on(2) + command_point(2, 0, 2, OPEN)
-NO_NEW_CHAPTER = "no new chapter can be made: the open one goes on\n"
 OVER = write_rows(sign_on(1), ask_site(1, CLOSE_SHIFT, 0), sign_off(1))
 # A new history; one whose open chapter is over, without a seal and with one; and one with a closed
 # chapter and an open one.
@@ -901,10 +903,11 @@ def fail_chapter_end(texts, kind, k, short):
     else:
         if got.end.report not in ("", report):
             raise Failed(f"{what}: the report isn't that of the history: {got}")
-        faults = [f"{fault}\n" for fault in ([NOT_STORED] if got.found else STARTS[kind])]
+        ended = [NOT_SEALED] if got.end.report else [NOT_STORED, NOT_SEALED]
+        faults = [f"{fault}\n" for fault in (ended if got.found else STARTS[kind])]
         said = got.end.err.removeprefix(NO_NEW_CHAPTER)
         is_well = end[0] == 1 and said in faults
-        no_memory = (4, "fault 31\n"), (1, "fault 64\n")
+        no_memory = (4, NO_MEMORY), (1, NO_THREAD)
         is_well = is_well or kind == "FAIL_ALLOCATION" and end in no_memory
     expect(f"{what}: {end}", is_well, True)
     expect(f"{what}: no copy is left", got.again.copies, [])
@@ -1159,7 +1162,7 @@ def fail_allocations_of_histories():
         is_same = (end, got.plain) == (whole.end, whole.plain)
         if not got.met and not is_same:
             raise Failed("a history that is opened: not the same twice")
-        is_ended = (end.status, end.err) in ((4, "fault 31\n"), (1, "fault 64\n"))
+        is_ended = (end.status, end.err) in ((4, NO_MEMORY), (1, NO_THREAD))
         is_front = whole.end.out.startswith(end.out)
         is_front = is_front and text in (STORED_TEXT, STORED_LINES, whole.plain[0])
         if not is_same and not (is_ended and is_front):
@@ -1179,7 +1182,7 @@ def fail_allocations_of_stored_station():
         if not got.end.met:
             expect("nothing", (got.end, got.plain), (WHOLE_STATION, [NEW_TEXT]))
         expect_stored(f"the station with a history, allocation {n}", got, None)
-        is_ended = (got.end.status, got.end.err) == (4, "fault 31\n")
+        is_ended = (got.end.status, got.end.err) == (4, NO_MEMORY)
         if not is_ended and not is_well_without_memory(got.end):
             raise Failed(f"the station with a history, allocation {n} failed: {got}")
         return got.end.met
@@ -1242,7 +1245,7 @@ def forget_with(n, few, wide):
         if not all(lines):
             _, err = program.communicate(timeout=PATIENCE)
             end = (program.returncode, err.decode())
-            expect(f"{n}: {end}", end in ((4, "fault 31\n"), (1, "fault 64\n")), True)
+            expect(f"{n}: {end}", end in ((4, NO_MEMORY), (1, NO_THREAD)), True)
             return True
         port, page = (int(line.rstrip("/\n").rsplit(":", 1)[1]) for line in lines)
         came = [talk(port, asked) for asked in (*SALE_BEFORE, LOOKS)]
@@ -1255,7 +1258,7 @@ def forget_with(n, few, wide):
         rows = read_rows(PROGRAM, wide, text)
         for node, octets in zip(((TILL, 1), (DISPENSER, 1), (TILL, 2)), came):
             expect(f"allocation {n}: what isn't stored", find_untold(rows, node, octets), None)
-        if program.returncode != 4 or err != b"fault 31\n":
+        if program.returncode != 4 or err != NO_MEMORY.encode():
             expect(f"allocation {n}: unpaid", told, unpaid)
             wanted = run(PROGRAM, "report", wide, given=text).out
             expect(f"allocation {n}", (program.returncode, out), (0, wanted))
@@ -1334,7 +1337,7 @@ def is_balanced(report):
 
 DEMO = [PROGRAM, "demo", KNOWN_SITE, FOLDER / "demos/two_tills.demo"]
 DEMO_REPORT = (FOLDER / "demos/two_tills.report").read_bytes()
-NO_LISTENER, NO_WORKER = (1, b"", "fault 63\n"), (1, b"", "fault 64\n")
+NO_LISTENER, NO_WORKER = (1, b"", UNCONNECTED), (1, b"", NO_THREAD)
 
 
 @test
@@ -1347,7 +1350,7 @@ def fail_allocations_of_demo():
         def one(n):
             end, met = PLACE.run([*DEMO, *words], NOTHING, FAIL_ALLOCATION=n)
             is_settled = (end.status, end.err) == (0, "") and is_balanced(end.out.decode())
-            is_ended = end in ((4, b"", "fault 31\n"), NO_LISTENER, NO_WORKER)
+            is_ended = end in ((4, b"", NO_MEMORY), NO_LISTENER, NO_WORKER)
             if not (is_settled or is_ended) or not met and end.out != DEMO_REPORT:
                 raise Failed(f"a demo {words} with allocation {n} failed: {end}")
             return met

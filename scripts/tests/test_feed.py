@@ -3,7 +3,7 @@ JSON, and is worked out by hand from its tables."""
 
 import json
 
-from shared.checks import advised, expect, expect_end
+from shared.checks import advised, expect, expect_end, without_folder
 from shared.histories import time_line, write_chapters, write_history, write_rows
 from shared.running import run
 from shared.station import KNOWN_SITE
@@ -174,7 +174,7 @@ def options_of_a_folder():
     """Neither option is for what standard input records."""
     for word in ("--json", "--from=0"):
         name = word.split("=")[0]
-        said = f"error: '{name}' is for the folder of a history"
+        said = without_folder(name)
         expect_end(word, run(PROGRAM, "replay", KNOWN_SITE, word), 2, b"", said)
 
 
@@ -184,4 +184,4 @@ def a_history_with_a_fault():
     bodies = time_line(MORNING) + requests(FIRST_SHIFT[:3]) + b"nothing\n"
     folder = write_history(HERE / "fault", KNOWN_SITE, *write_chapters(KNOWN_SITE, bodies))
     told = [line(n, MORNING, *row) for n, row in enumerate(FIRST_SHIFT[:3])]
-    expect_end("told", replay(folder), 1, joined(told), advised("chapter 1 line 8"))
+    expect_end("told", replay(folder), 1, joined(told), advised("chapter 1 line 8", folder))

@@ -325,7 +325,8 @@ def no_memory_for_a_row():
     """A station whose addresses are used up can't keep a row for the feed: it says that the feed
     has ended. Its peer has a front of the rows and is closed, and nobody listens there. A till goes
     on and loses no row; the next start has the feed again."""
-    folder, ended = HERE / "memory", "the feed has ended: out of memory\n"
+    folder = HERE / "memory"
+    ended = "the feed has ended: out of memory; the next start begins it again\n"
     with start_feed("--history", folder, site=small_site(), told=ended) as day:
         day.say("t1 SignOn")
         with day.feed("from 0") as feed:

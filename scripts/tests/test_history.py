@@ -21,8 +21,8 @@ import threading
 import time
 
 from shared.checks import (
-    CHAPTER_UNREAD, NO_FILE, NOT_MADE, NOT_WRITTEN, Failed, Skipped, advised, expect, first_line,
-    unstored,
+    NO_FILE, NO_NEW_CHAPTER, NOT_MADE, OPEN_IT, Failed, Skipped, advised, another_site,
+    chapter_unread, expect, first_line, unprinted, unstored, unwritten,
 )  # fmt: skip
 from shared.histories import (
     FIRST_LINES, LOCK_FILE, NO_SEAL, SITE_FILE, Told, chapter_path, check_chapters, count_rows,
@@ -55,7 +55,6 @@ AT_ONCE = 6  # stations
 MANY = 200  # rows, and messages, until a disk is full
 SITE_LINE = 2  # of a chapter
 MOST_KILOBYTES = 16_384  # of a station that forgets rows
-IN_USE = f"{advised('history in use')}\n".encode()
 LISTENING = re.compile(rb"listening 127\.0\.0\.1:\d+\n")
 # Till 2 releases point 1, which till 1 opened, and its dispenser sells ten litres.
 DAY = [
@@ -148,16 +147,21 @@ def expect_refused(what, folder, fault, site=KNOWN_SITE, **how):
     expect(what, got, (1, b"", f"{fault}\n"))
 
 
-def expect_advised(what, folder, fault, site=KNOWN_SITE, **how):
+def expect_advised(what, folder, fault, site=KNOWN_SITE, **named):
     """.. and what to do."""
-    expect_refused(what, folder, advised(fault), site, **how)
+    expect_refused(what, folder, advised(fault, folder, **named), site)
+
+
+def tell_in_use(folder):
+    """What a start says of a history in this folder that another program has."""
+    return f"{advised('history in use', folder)}\n".encode()
 
 
 def expect_line(what, text, number, site=KNOWN_SITE):
     """The line of this number is no chapter's: the file stays as it is."""
     path = write_chapter(text, site=site)
     fault = "history of another site" if number == SITE_LINE else f"chapter 1 line {number}"
-    expect_advised(what, path, fault, site)
+    expect_advised(what, path.parent, fault, site)
     expect(f"{what}: the file", path.read_bytes(), text)
 
 
@@ -356,7 +360,7 @@ def other_first_lines():
         path = write_chapter(FIRST[:length])
         whole = FIRST[:length].count(b"\n")
         faults = "chapter 1 line 1", "history of another site", "chapter 1 line 3"
-        expect_advised(f"{length} octets", path, faults[whole])
+        expect_advised(f"{length} octets", path.parent, faults[whole])
         expect(f"{length} octets stay", path.read_bytes(), FIRST[:length])
     for wrong in (site[:-1] + b" \n", site[:-2] + b"\n", site.upper(), b"\n", b""):
         expect_line(f"{wrong} names the site", title + wrong + after + rows, SITE_LINE)
@@ -528,7 +532,7 @@ def starts_at_once():
                 for one in all_:
                     _, err = one.communicate(timeout=WAIT)
                     ends.append((one.returncode, err))
-            refused = [(1, IN_USE)] * (AT_ONCE - 1)
+            refused = [(1, tell_in_use(path.parent))] * (AT_ONCE - 1)
             expect("how they end", sorted(ends), [(0, b""), *refused])
             expect("the file", read_plain(path), text + OFF_1 if text else FIRST)
             expect_files("at once", path.parent, KNOWN_SITE, 1)
@@ -570,12 +574,12 @@ def own_sites():
     for what, one in others.items():
         site.write_text(one)
         expect("another text", one != told, True)
-        expect_advised(what, folder, "history of another site", site)
+        expect_refused(what, folder, another_site(site, folder), site)
         expect(f"{what}: the chapter", path.read_bytes(), text)
         expect_files(what, folder, KNOWN_SITE, 1)
     site.write_text(others["a price"])
     empty = write_history(HERE / "no_chapter", KNOWN_SITE)
-    expect_advised("without a chapter", empty, "history of another site", site)
+    expect_refused("without a chapter", empty, another_site(site, empty), site)
     ended = run(*command(empty, site=None))
     expect("a site file and no chapter", (ended.status, ended.err), (0, ""))
     expect("it is new", ended.out.startswith(b"history new\nlistening "), True)
@@ -596,7 +600,7 @@ def faults_of_own_sites():
         if "rows" not in fault:
             fault = first_line(checked.err).strip()
         for site in (None, KNOWN_SITE):
-            expect_advised(f"{text[:20]}", folder, f"{SITE_FILE}: {fault}", site)
+            expect_advised(f"{text[:20]}", folder, f"{SITE_FILE}: {fault}", site, rows=1023)
         expect("its site file stays", own.read_bytes(), text)
     own.unlink()
     for site in (None, KNOWN_SITE):
@@ -619,9 +623,11 @@ def no_folders():
     ring.symlink_to(ring)
     file = HERE / "file"
     file.write_bytes(FIRST)
-    no_folder, ring_found = "Not a directory", "Too many levels of symbolic links"
+    advice = "name a folder, or a place where one can be made"
+    no_folder = f"Not a directory\n{advice}"
+    ring_found = f"Too many levels of symbolic links\n{advice}"
     names = {
-        file: no_folder, fifo: no_folder, dangling: NO_FILE, ring: ring_found,
+        file: no_folder, fifo: no_folder, dangling: f"{NO_FILE}\n{advice}", ring: ring_found,
         "/dev/full": no_folder, "/dev/null": no_folder, "": f"{NO_FILE}\n{NOT_MADE}",
         f"{file}/x": no_folder, f"{file}/": no_folder,
         HERE / "no/such": f"{NO_FILE}\n{NOT_MADE}", HERE / ("x" * 300): "File name too long",
@@ -634,8 +640,9 @@ def no_folders():
     expect("the file stays", file.read_bytes(), FIRST)
     first = HERE / "first_without"
     advice = (
-        "if this is the first start, give a site file: forecourt station FILE --history FOLDER ..;"
-        " otherwise see that the folder's name is right, and that its disk is mounted"
+        "if this is the first start, give a site file: forecourt station FILE --history FOLDER ..,"
+        " or put it there, as a file of the station's user; otherwise see that the folder's name is"
+        " right, and that its disk is mounted"
     )
     expect_refused("a first start", first, f"cannot read {first / SITE_FILE}\n{advice}", None)
     expect("no chapter is made", list_chapters(first), [])
@@ -661,9 +668,9 @@ def no_files():
     """What has a chapter's name, or the lock's, and is no file: it is refused at once."""
     folder = HERE / "no_files"
     for name, why in (
-        (LOCK_FILE, ": its lock is no regular file"),
-        (chapter_path("", 1).name, f"\n{CHAPTER_UNREAD}"),
-        (chapter_path("", 2).name, ": its last chapter is no regular file"),
+        (LOCK_FILE, f"cannot read {folder}: its lock is no regular file"),
+        (chapter_path("", 1).name, chapter_unread(folder)),
+        (chapter_path("", 2).name, f"cannot read {folder}: its last chapter is no regular file"),
     ):
         for what, make in (
             ("a folder", lambda path: path.mkdir()), ("a fifo", os.mkfifo),
@@ -675,7 +682,7 @@ def no_files():
             make(folder / name)
             ended = run(*command(folder), timeout=10)
             got = (ended.status, ended.out, ended.err)
-            expect(f"{what} as {name}", got, (1, b"", f"cannot read {folder}{why}\n"))
+            expect(f"{what} as {name}", got, (1, b"", f"{why}\n"))
     expect("nothing is made", (HERE / "nowhere").exists(), False)
 
 
@@ -698,13 +705,14 @@ def without_leave():
         path = write_chapter(DAY_TEXT, "kept")
         os.chown(path.parent, NOBODY, NOBODY)
         path.chmod(mode)
-        expect_refused(f"mode {mode:o}", path, f"cannot read {path.parent}: {DENIED}", **how)
+        why = f"cannot read {path.parent}: {DENIED}\n{OPEN_IT}"
+        expect_refused(f"mode {mode:o}", path, why, **how)
         expect("the file", path.read_bytes(), DAY_TEXT)
     path = write_chapter(DAY_TEXT, "kept")
     path.parent.chmod(0o755)
     ended = run(*command(path), **how)
     got = (ended.status, ended.out, ended.err)
-    expect("a folder of others", got, (1, b"", f"cannot read {path.parent}: {DENIED}\n"))
+    expect("a folder of others", got, (1, b"", f"cannot read {path.parent}: {DENIED}\n{OPEN_IT}\n"))
     expect("the file", path.read_bytes(), DAY_TEXT)
     expect("no lock is made", (path.parent / LOCK_FILE).exists(), False)
     folder = HERE / "none_yet"
@@ -796,7 +804,7 @@ def outputs_into_the_history():
     folder = write_told()
     for path in (*list_chapters(folder), folder / SITE_FILE):
         expect("errors", start_into(folder, path, "stderr"), (b"", b""))
-        expect("output", start_into(folder, path, "stdout"), (b"", IN_USE))
+        expect("output", start_into(folder, path, "stdout"), (b"", tell_in_use(folder)))
 
 
 @test
@@ -805,7 +813,7 @@ def outputs_into_a_history_in_use():
     folder = write_told()
     with start_station(folder) as day:
         for path in (*list_chapters(folder), folder / SITE_FILE):
-            expect("output", start_into(folder, path, "stdout"), (b"", IN_USE))
+            expect("output", start_into(folder, path, "stdout"), (b"", tell_in_use(folder)))
             expect("errors", start_into(folder, path, "stderr"), (b"", b""))
         end(day, None)
     text = without_marks(read_texts(folder)[1])
@@ -840,7 +848,7 @@ def no_place_for_a_copy():
 
     def expect_unopened(what):
         ended = run(*command(path))
-        expect(what, (ended.status, ended.out, ended.err), (1, b"", f"{NOT_WRITTEN}\n"))
+        expect(what, (ended.status, ended.out, ended.err), (1, b"", f"{unwritten(path.parent)}\n"))
         expect(f"{what}: the chapter", path.read_bytes(), DAY_TEXT + b"01")
         expect(f"{what}: it stays", os.path.lexists(copy), True)
 
@@ -883,7 +891,7 @@ def mistaken_words():
     expect("the file", path.read_bytes(), b"bad\n")
     with start_station(write_chapter(FIRST, "first")) as day:
         ended = run(PROGRAM, "station", KNOWN_SITE, "--port", str(day.port), "--history", folder)
-        said = advised("chapter 1 line 1") + "\n"
+        said = advised("chapter 1 line 1", folder) + "\n"
         expect("before listening", (ended.status, ended.err), (1, said))
         path = write_chapter(DAY_TEXT)
         ended = run(PROGRAM, "station", KNOWN_SITE, "--port", str(day.port), "--history", folder)
@@ -912,7 +920,7 @@ def closed_streams():
                 ended = run(*command(path, *words), preexec_fn=close_streams(*closed))
                 is_told = 1 not in closed
                 got = (ended.status, ended.err, ended.out != b"")
-                why = "" if is_told or 2 in closed else f"{unstored(path.parent)}\n"
+                why = "" if is_told or 2 in closed else f"{unprinted(path.parent)}\n"
                 expect(f"{closed} closed", got, (0 if is_told else 1, why, is_told))
                 expect(f"{closed} closed: the file", read_plain(path), whole)
 
@@ -922,7 +930,7 @@ def full_output():
     """A standard output that takes nothing ends the day; its rows are there at the next start."""
     path = write_chapter(DAY_TEXT)
     ended = run(*command(path), sink="/dev/full")
-    expect("its end", (ended.status, ended.err), (1, f"{unstored(path.parent)}\n"))
+    expect("its end", (ended.status, ended.err), (1, f"{unprinted(path.parent)}\n"))
     text = path.read_bytes()
     expect("its file", read_plain(path), DAY_TEXT + OFF_1)
     expect_opened("the next start", text, text, len(DAY) + 1)
@@ -1024,10 +1032,11 @@ def a_file_that_takes_no_more(seed):
         expect_opened("with more room", path.read_bytes(), text, rows, write_rows(*offs))
     path = write_chapter(b"")
     ended = run(*command(path), preexec_fn=limit_file(len(FIRST) - 1))
-    expect("no first line", (ended.status, ended.out, ended.err), (1, b"", f"{NOT_WRITTEN}\n"))
+    fault = f"{unwritten(path.parent)}\n"
+    expect("no first line", (ended.status, ended.out, ended.err), (1, b"", fault))
     path = write_chapter(DAY_TEXT)
     ended = run(*command(path), preexec_fn=limit_file(len(DAY_TEXT)))
-    expect("no sign-off", (ended.status, ended.out, ended.err), (1, b"", f"{NOT_WRITTEN}\n"))
+    expect("no sign-off", (ended.status, ended.out, ended.err), (1, b"", fault))
     expect("the rows stay", path.read_bytes(), DAY_TEXT)
 
 
@@ -1044,7 +1053,8 @@ def a_full_disk(seed):
         text = fill(path, "a full disk", seed)
         kept = write_chapter(path.read_bytes(), "kept")
         again = run(*command(path))
-        ends = ((0, ""), (1, f"{NOT_WRITTEN}\n"), (1, f"{unstored(path.parent)}\n"))
+        faults = (unwritten(path.parent), unstored(path.parent), unprinted(path.parent))
+        ends = ((0, ""), *((1, f"{fault}\n") for fault in faults))
         expect("again", (again.status, again.err) in ends, True)
         expect("its rows stay", path.read_bytes().startswith(text), True)
         ended = run(*command(kept))
@@ -1064,7 +1074,6 @@ def a_full_disk(seed):
 # ---- chapters that end
 
 SHIFTS = 5
-NO_NEW_CHAPTER = "no new chapter can be made: the open one goes on\n"
 MOST_ROWS = 1_000_000  # of a chapter
 FIRST_WARNED, LAST_SHIFT, SHIFTS_SPENT = 990, 999, 24
 RETRY_ROWS = 1_024  # after which a new chapter is tried again
@@ -1395,11 +1404,12 @@ def wrong_chapters():
             for place, text in texts.items():
                 chapter_path(folder, place).write_bytes(text)
             what = f"{fault}, case {number}"
-            expect_advised(what, folder, fault)
+            expect_advised(what, folder, fault, chapter=2)
             for word in ("shifts", "next"):
                 ended = run(PROGRAM, word, folder)
                 got = (ended.status, ended.out, ended.err)
-                expect(f"{what}: {word}", got, (1, b"", f"{advised(fault)}\n"))
+                said = advised(fault, folder, chapter=2) + "\n"
+                expect(f"{what}: {word}", got, (1, b"", said))
             after = {place: chapter_path(folder, place).read_bytes() for place in texts}
             expect(f"{what}: the files", after, texts)
             expect(f"{what}: no more", len(list_chapters(folder)), len(texts))

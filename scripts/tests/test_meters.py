@@ -10,7 +10,7 @@ import os
 import re
 import typing
 
-from shared.checks import expect
+from shared.checks import advised, expect, without_folder
 from shared.histories import first_lines, time_line, write_history, write_rows
 from shared.running import EXAMPLES, run
 from tests.built import PROGRAM
@@ -237,10 +237,10 @@ def faults():
     given = spell(DAY)
     ended = run(PROGRAM, "meters", SITE, "--csv", given=given + b"zz\n")
     expect("the table", ended.out.decode().splitlines(), NOZZLES)
-    expect("the fault", (ended.status, ended.err), (1, "line 25: not hexadecimal\n"))
+    expect("the fault", (ended.status, ended.err), (1, advised("line 25: not hexadecimal") + "\n"))
     ended = run(PROGRAM, "meters", SITE, "--shift", "1", given=given)
     expect("a shift of a text", (ended.status, ended.out), (2, b""))
-    expect("why", ended.err, "error: '--shift' is for the folder of a history\n")
+    expect("why", ended.err, without_folder("--shift") + "\n")
     first = f"# witsomar journal of site {'12' * 32}\n".encode()
     ended = run(PROGRAM, "meters", SITE, given=first + given)
     expect("another site", (ended.status, ended.out), (1, b""))

@@ -244,7 +244,10 @@ def run_station(folder, *words):
     """A station, started as the unit does, that was asked at a door and by HTTP. It has to be
     asked to end, and prints its report then. Words stand before the command."""
     command = [*words, unpacked() / "usr/lib/forecourt/run-station", PROGRAM, *STATION]
-    with subprocess.Popen(command, cwd=folder, stdout=subprocess.PIPE) as station:
+    # A shell can't trap a signal that is ignored as it begins, as SIGINT is in the background.
+    heed = lambda: signal.signal(signal.SIGINT, signal.SIG_DFL)
+    how = {"cwd": folder, "stdout": subprocess.PIPE, "preexec_fn": heed}
+    with subprocess.Popen(command, **how) as station:
         page = next(line for line in station.stdout if line.startswith(b"page "))
         with urllib.request.urlopen(page.decode().split()[1] + "healthz") as answer:
             expect("healthz", answer.read(), b"ok\n")

@@ -29,7 +29,7 @@ from shared import forecourts, page_day, page_pictures, random_figures, serving
 from shared.browser import (
     SCREEN, SOON, TELEPHONE, WIDE, expect_words, find_browser, open_page, read_tile, start_browser,
 )  # fmt: skip
-from shared.checks import Failed, Skipped, expect, unstored
+from shared.checks import Failed, Skipped, advised, expect, unstored
 from shared.firefox import find_firefox, start_firefox
 from shared.histories import (
     NO_SEAL, count_rows, find_last_seal, read_chapters, retitle, time_line, write_chapters,
@@ -1071,7 +1071,7 @@ def reports_as_json():
         expect("status and fault", (told.status, told.err), (text.status, text.err))
         expect_same_report(told.out, text.out)
     torn = run(PROGRAM, "report", FIVE_POINTS, "--json", given=days[0] + b"01 01 02")
-    expect("a torn line", (torn.status, torn.err), (1, "fault 44\n"))
+    expect("a torn line", (torn.status, torn.err), (1, f"{advised('fault 44')}\n"))
 
 
 def expect_same_report(told, text):

@@ -11,14 +11,16 @@ import json
 import os
 import pty
 import re
-import signal
 import subprocess
 import sys
 
 from shared import random_words, station
-from shared.checks import NO_FILE, expect, expect_end, first_line
+from shared.checks import NO_FILE, NOT_PRINTED, advised, expect, expect_end, first_line
 from shared.histories import write_chapters, write_history, write_rows
-from shared.running import CRATES, EXAMPLES, PATIENCE, close_input, limit_memory, run
+from shared.running import (
+    CLOSED_PIPE, CRATES, EXAMPLES, PATIENCE, close_input, limit_memory, run, run_unread,
+)  # fmt: skip
+from shared.serving import UNKEPT
 from shared.station import FIVE_POINTS, KNOWN_SITE, LONGEST_LINE, SITES, SIXTY_FOUR_POINTS
 from tests.built import PROGRAM
 from tests.suite import make_folder, start_chance, test_each
@@ -29,7 +31,6 @@ MESSAGES, REPLIES = STORED.read_text().splitlines(), ANSWERS.read_bytes().splitl
 FIRST = MESSAGES[0].replace(" ", "")
 LEAST_MEMORY = 12_000 * 1024  # octets of addresses, too few for 200,000 replies or rows
 HERE = make_folder()
-CLOSED_PIPE = 128 + signal.SIGPIPE
 OWN_SITE = "give the site file on which its rows were made"
 
 
@@ -54,14 +55,7 @@ def expect_whole(folder, kind):
 
 def expect_quiet(what, words, given=b""):
     """A command whose output nobody reads ends as SIGPIPE ends others, and says nothing."""
-    gone, output = os.pipe()
-    os.close(gone)
-    how = {"input": given, "stdout": output, "stderr": subprocess.PIPE, "timeout": PATIENCE}
-    try:
-        end = subprocess.run([PROGRAM, *words], **how)
-    finally:
-        os.close(output)
-    expect(what, (end.returncode, end.stderr), (CLOSED_PIPE, b""))
+    expect_end(what, run_unread(PROGRAM, *words, given=given), CLOSED_PIPE)
 
 
 @test_each
@@ -75,6 +69,9 @@ def closed_pipes():
     expect_quiet("explain", ["explain"], rows)
     expect_quiet("explain 20", ["explain", "20"])
     expect_quiet("spell", ["spell"], b"t1 SignOn\n")
+    for words in ([], ["--loopback"]):
+        demo = ["demo", FIVE_POINTS, FOLDER / "demos/two_tills.demo", *words]
+        expect_quiet(f"demo {words}", demo)
     for words in (["help"], ["--version"], ["check", "--help"]):
         expect_quiet(" ".join(words), words)
     body = write_rows(station.sign_on(1), station.sign_off(1))
@@ -82,13 +79,18 @@ def closed_pipes():
     for words in (["replay"], ["replay", "--json"], ["report"], ["sales"], ["meters"], ["explain"],
                   ["explain", "--times"], ["shifts"], ["next"], ["verify"]):  # fmt: skip
         expect_quiet(f"{words} of a history", [words[0], history, *words[1:]])
+    one = "--workers", "1", "--sessions", "1"
+    for command, before, words in (("serve", "", one), ("station", UNKEPT, ())):
+        end = run_unread(PROGRAM, command, KNOWN_SITE, "--port", "0", *words)
+        expect_end(f"{command} can't say where it listens", end, 1, b"", before + NOT_PRINTED)
 
 
 @test_each
 def cases():
     """Each file of cases/, of explained/ for explain, and of reports/ for report on the known
-    site: what is written for NAME.hex is NAME.out, the text on standard error NAME.err, and the
-    status NAME.status; without these files there is no such text, and the status is 0."""
+    site: what is written for NAME.hex is NAME.out, the text on standard error NAME.err, below a
+    fault with what to do, and the status NAME.status; without these files there is no such text,
+    and the status is 0."""
     for kind, words in (
         ("cases", []), ("explained", ["explain"]), ("reports", ["report", KNOWN_SITE])
     ):
@@ -97,6 +99,7 @@ def cases():
             end = forecourt(*words, given=case)
             status = int(read_if_there(case.with_suffix(".status"), "0"))
             text = read_if_there(case.with_suffix(".err")).rstrip("\n")
+            text = advised(text) if text.startswith(("fault", "line")) else text
             expect_end(f"{kind}/{case.name}", end, status, case.with_suffix(".out"), text)
 
 
@@ -113,9 +116,10 @@ def stored_messages():
         out=ANSWERS,
     )
     expect_end("an octet a line", forecourt(given=folded), out=ANSWERS)
-    expect_end("a truncated message", forecourt(given="01010201004500\n"), 1, b"", "fault 44")
+    end = forecourt(given="01010201004500\n")
+    expect_end("a truncated message", end, 1, b"", advised("fault 44"))
     end = forecourt(given=f"{MESSAGES[0]}\n01x\n")
-    expect_end("a bad line", end, 1, REPLIES[0], "line 2: not hexadecimal")
+    expect_end("a bad line", end, 1, REPLIES[0], advised("line 2: not hexadecimal"))
 
 
 def fill_line(text, length=LONGEST_LINE):
@@ -127,42 +131,42 @@ def fill_line(text, length=LONGEST_LINE):
 def long_lines():
     """The longest line has 65,536 octets, spaces and comments counted too, with or without a
     line feed."""
+    too_long = advised("line 1: too long")
     for end in ("", "\n"):
         longest = forecourt(given=fill_line(FIRST) + end)
         expect_end(f"the longest line, ended by {end!r}", longest, out=REPLIES[0])
         longer = forecourt(given=fill_line(FIRST, LONGEST_LINE + 1) + end)
-        expect_end(f"a line that is too long, ended by {end!r}", longer, 1, b"", "line 1: too long")
+        expect_end(f"a line that is too long, ended by {end!r}", longer, 1, b"", too_long)
     end = forecourt(given="0101\n#" + " " * LONGEST_LINE + "\n")
-    expect_end("a comment that is too long, behind half a message", end, 1, b"", "line 2: too long")
+    too_long = advised("line 2: too long")
+    expect_end("a comment that is too long, behind half a message", end, 1, b"", too_long)
 
 
 @test_each
 def devices():
     """An output that takes nothing, and a standard input that is closed."""
     refused = b"0201010100e300050101010128\n"
-    expect_end(
-        "a wrong code", forecourt(given="010102010143000401233E00\n"), 1, refused, "fault 40"
-    )
+    end = forecourt(given="010102010143000401233E00\n")
+    expect_end("a wrong code", end, 1, refused, advised("fault 40"))
     full = {"given": STORED, "sink": "/dev/full"}
     shut = {"given": None, "preexec_fn": close_input}
-    expect_end("an output that takes nothing", forecourt(**full), 1, b"", "fault 62")
-    expect_end("a closed standard input", forecourt(**shut), 1, b"", "fault 61")
+    expect_end("an output that takes nothing", forecourt(**full), 1, b"", NOT_PRINTED)
+    expect_end("a closed standard input", forecourt(**shut), 1, b"", advised("fault 61"))
     for word in ("--help", "--version"):
-        expect_end(f"an output that takes no {word}", forecourt(word, **full), 1, b"", "fault 62")
+        expect_end(f"an output that takes no {word}", forecourt(word, **full), 1, b"", NOT_PRINTED)
     end = forecourt("check", KNOWN_SITE, **full)
-    expect_end("an output that takes no ok", end, 1, b"", "fault 62")
+    expect_end("an output that takes no ok", end, 1, b"", NOT_PRINTED)
     for words in (["explain"], ["report", KNOWN_SITE]):
         end = forecourt(*words, **full)
-        expect_end(f"{words[0]} to an output that takes nothing", end, 1, b"", "fault 62")
-        expect_end(
-            f"{words[0]} on a closed standard input", forecourt(*words, **shut), 1, b"", "fault 61"
-        )
+        expect_end(f"{words[0]} to an output that takes nothing", end, 1, b"", NOT_PRINTED)
+        end = forecourt(*words, **shut)
+        expect_end(f"{words[0]} on a closed standard input", end, 1, b"", advised("fault 61"))
 
 
 @test_each
 def terminals():
     """At a terminal a command says what is typed there; else it says nothing."""
-    messages, requests = "a message in hexadecimal", "a request in words"
+    messages, requests = "a message in hexadecimal", "a request in words, as t1 SignOn"
     of_messages = [], ["replay", KNOWN_SITE], ["explain"]
     for words, what in [*((words, messages) for words in of_messages), (["spell"], requests)]:
         master, slave = pty.openpty()
@@ -221,25 +225,26 @@ def help_texts():
     digest = hashlib.sha256(open(PROGRAM, "rb").read()).hexdigest()
     expect("which program it is", lines[1:], [f"sha256 {digest}"])
     for word in ("help", "--help", "-h"):
-        first = "The forecourt site controller; alone it replays standard input on the site that"
-        lines = expect_help(f"{first} it knows", word)
-        for text in (
+        first = "Runs a filling station's forecourt, and reads what it kept. Without a command it"
+        alone = "replays the messages on standard input with a site of its own"
+        lines = expect_help(f"{first} {alone}", word)
+        named = [line.split()[0] for line in lines if line.startswith("  ")]
+        for name in (
             "check", "replay", "report", "serve", "station", "demo", "shifts", "next", "explain",
-            "sales", "meters", "spell", "ask", "Print help", "Print version",
+            "sales", "meters", "spell", "ask", "verify", "story", "help", "-h,", "-V,",
         ):
-            found = any(line.startswith("  ") and text in line for line in lines)
-            expect(f"{word} speaks of {text}", found, True)
+            expect(f"{word} speaks of {name}", name in named, True)
     for command, first in (
         ("check", "Reads a site file, and prints its faults, or how large the site is"),
         (
             "replay",
-            "Prints the replies to the messages on standard input, on the site of a file, or the"
-            " replies of a history",
+            "Prints the replies of a history, or those to messages on standard input, with the site"
+            " of a file",
         ),
         (
             "report",
-            "Prints the report of the recorded messages on standard input, on the site of a file,"
-            " or of a history",
+            "Prints the report of a history, or of recorded messages on standard input, with the"
+            " site of a file",
         ),
         (
             "serve",
@@ -248,7 +253,7 @@ def help_texts():
         (
             "station",
             "Serves every till and dispenser of a site on 127.0.0.1 until standard input ends, and"
-            " prints the report of the day",
+            " prints the report of the day, or of the whole history",
         ),
         ("demo", "Runs the tills and dispensers of a script, and prints the report of the day"),
         ("shifts", "Prints what each shift of a history cleared, one line for each"),
@@ -264,19 +269,24 @@ def help_texts():
         ),
         (
             "sales",
-            "Prints the sales in the recorded messages on standard input, on the site of a file, or"
-            " in a history, as CSV",
+            "Prints as CSV the sales of a history, or of recorded messages on standard input, with"
+            " the site of a file",
         ),
         (
             "meters",
-            "Prints what each nozzle metered, in the recorded messages on standard input, on the"
-            " site of a file, or in a history",
+            "Prints what each nozzle metered in a history, or in recorded messages on standard"
+            " input, with the site of a file",
         ),
-        ("spell", "Prints the requests that standard input has in words, as messages in hexadecimal"),
+        ("verify", "Reads a whole history, and prints its last seal, or the first fault in it"),
+        (
+            "story",
+            "Prints the rows of one sale of a history in words, from its release to its clear",
+        ),
+        ("spell", "Turns requests in words on standard input into messages in hexadecimal"),
         (
             "ask",
-            "Sends the requests that standard input has in words to a running station, and prints"
-            " its replies",
+            "Sends the requests in words on standard input to a running station, and prints its"
+            " replies",
         ),
     ):
         lines = expect_help(first, command, "--help")
@@ -317,7 +327,7 @@ def lines_to_explain():
     """What is explained is read as a replay reads it: a line that is too long, even one that
     doesn't end, takes no more memory than the longest."""
     end = forecourt("explain", given=b"0" * 100_000_000, preexec_fn=limit_memory(60_000 * 1024))
-    expect_end("explain on a line that does not end", end, 1, b"", "line 1: too long")
+    expect_end("explain on a line that does not end", end, 1, b"", advised("line 1: too long"))
     end = forecourt("explain", given=fill_line(FIRST) + "\n")
     expect_end("explain on the longest line", end, 0, b"t1 SignOn, token 1\n")
 
@@ -368,7 +378,7 @@ def explained_numbers():
         expect_mistake("explain", word)
     expect_mistake("explain", "1", "2")
     end = forecourt("explain", "1", given=STORED, sink="/dev/full")
-    expect_end("explain 1 to an output that takes nothing", end, 1, b"", "fault 62")
+    expect_end("explain 1 to an output that takes nothing", end, 1, b"", NOT_PRINTED)
 
 
 def read_tables(head):
@@ -453,11 +463,11 @@ def spelled_lines():
         expect_end(f"{case.name}, spelled", told, 0, given.encode())
     full = {"given": "t1 SignOn\n", "sink": "/dev/full"}
     end = forecourt("spell", **full)
-    expect_end("spell to an output that takes nothing", end, 1, b"", "fault 62")
+    expect_end("spell to an output that takes nothing", end, 1, b"", NOT_PRINTED)
     end = forecourt("spell", given=None, preexec_fn=close_input)
-    expect_end("spell on a closed standard input", end, 1, b"", "fault 61")
+    expect_end("spell on a closed standard input", end, 1, b"", advised("fault 61"))
     end = forecourt("spell", given="#" + " " * LONGEST_LINE)
-    expect_end("spell on a line that is too long", end, 1, b"", "line 1: too long")
+    expect_end("spell on a line that is too long", end, 1, b"", advised("line 1: too long"))
 
 
 # A line, and what is said of it. Behind the last ones the words are parted by a comma.
@@ -585,13 +595,13 @@ def marked_texts():
     expect_end("a marked script", end, 0, script.with_suffix(".report"))
     for front in (MARK + MARK, MARK[:2]):
         end = forecourt(given=front + stored)
-        expect_end(f"{front} before a text", end, 1, b"", "line 1: not hexadecimal")
+        expect_end(f"{front} before a text", end, 1, b"", advised("line 1: not hexadecimal"))
     end = forecourt("spell", given=MARK + MARK + b"t1 SignOn\n")
     why = r'line 1: word 1 "\xef\xbb\xbft1": t1 to t32, or d1 to d64'
     expect_end("spell of a text with two marks", end, 1, b"", why)
     marked.write_bytes(MARK + MARK + script.read_bytes())
     end = forecourt("demo", FIVE_POINTS, marked)
-    expect_end("a script with two marks", end, 1, b"", "script line 1")
+    expect_end("a script with two marks", end, 1, b"", advised("script line 1", text=""))
 
 
 @test_each
@@ -667,11 +677,11 @@ def human_report():
     end = forecourt("report", FIVE_POINTS, "--human", given=day)
     expect_end("the report of the paying day, for people", end, 0, HUMAN.encode())
     end = forecourt("report", FIVE_POINTS, "--human", given=day.read_text() + "01\n")
-    expect_end("for people, up to a fault", end, 1, HUMAN.encode(), "fault 44")
+    expect_end("for people, up to a fault", end, 1, HUMAN.encode(), advised("fault 44"))
     end = forecourt("report", FIVE_POINTS, "--human", given=day, sink="/dev/full")
-    expect_end("for people, to an output that takes nothing", end, 1, b"", "fault 62")
+    expect_end("for people, to an output that takes nothing", end, 1, b"", NOT_PRINTED)
     end = forecourt("report", FIVE_POINTS, "--human", given=None, preexec_fn=close_input)
-    expect_end("for people, on a closed standard input", end, 1, b"", "fault 61")
+    expect_end("for people, on a closed standard input", end, 1, b"", advised("fault 61"))
 
 
 @test_each
@@ -714,11 +724,12 @@ def sales_of_a_day():
     expect("the draws of the fuelling day", read_table("fuelling_day", "--draws"), drawn)
     cut = (EXAMPLES / "paying_day.hex").read_text() + "01\n"
     end = forecourt("sales", FIVE_POINTS, given=cut)
-    expect_end("sales up to a fault", end, 1, f"{','.join(TITLES)}\n{PAID}".encode(), "fault 44")
+    paid = f"{','.join(TITLES)}\n{PAID}".encode()
+    expect_end("sales up to a fault", end, 1, paid, advised("fault 44"))
     end = forecourt("sales", FIVE_POINTS, given="", sink="/dev/full")
-    expect_end("sales to an output that takes nothing", end, 1, b"", "fault 62")
+    expect_end("sales to an output that takes nothing", end, 1, b"", NOT_PRINTED)
     end = forecourt("sales", FIVE_POINTS, given=None, preexec_fn=close_input)
-    expect_end("sales on a closed standard input", end, 1, b"", "fault 61")
+    expect_end("sales on a closed standard input", end, 1, b"", advised("fault 61"))
     end = forecourt("sales", "no_such_file", given="")
     expect_end("sales on no site", end, 1, b"", f"cannot read no_such_file: {NO_FILE}")
     for words in (["sales"], ["sales", FIVE_POINTS, "--csv"], ["spell", FIVE_POINTS]):
@@ -752,12 +763,12 @@ def reports():
     """Reports where memory or a line ends them, and of products in another order."""
     reads = f"{FIRST}\n" + "01010201000300020123\n" * 200_000
     end = forecourt("report", KNOWN_SITE, given=reads, preexec_fn=limit_memory(LEAST_MEMORY))
-    expect_end("a report under a memory limit", end, 4, b"", "fault 31")
+    expect_end("a report under a memory limit", end, 4, b"", advised("fault 31"))
     # A line that is too long ends it: the rows until then are reported.
     text = "\n".join([*MESSAGES[:2], "#" + " " * LONGEST_LINE, MESSAGES[-1], ""])
     rows = FOLDER / "reports/rows_before_a_fault.out"
     end = forecourt("report", KNOWN_SITE, given=text)
-    expect_end("a report until a line that is too long", end, 1, rows, "line 3: too long")
+    expect_end("a report until a line that is too long", end, 1, rows, advised("line 3: too long"))
     turned = HERE / "turned.toml"
     turned.write_text(TURNED_SITE)
     end = forecourt("report", turned, given=STORED)
@@ -1007,4 +1018,4 @@ def memory_limit():
     whole = forecourt(given=text)
     expect("many messages", (whole.status, whole.err), (0, ""))
     end = forecourt(given=text, preexec_fn=limit_memory(LEAST_MEMORY))
-    expect_end("a memory limit", end, 4, whole.out[: len(end.out)], "fault 31")
+    expect_end("a memory limit", end, 4, whole.out[: len(end.out)], advised("fault 31"))

@@ -11,7 +11,7 @@ import shutil
 import subprocess
 
 from shared import random_words
-from shared.checks import NO_FILE, advised, expect
+from shared.checks import NO_FILE, NOT_PRINTED, advised, expect, no_history, without_folder
 from shared.histories import (
     LOCK_FILE, SITE_FILE, chapter_path, is_read, list_chapters, read_chapters, retitle, seal_line,
     time_line, write_chapters, write_history, write_rows,
@@ -306,7 +306,7 @@ def no_shifts():
             ended = run(PROGRAM, command, folder, "--shift", word)
             expect(f"{command} {word}", (ended.status, ended.err), (0, ""))
     for command in ("replay", "sales", "report"):
-        said = "error: '--shift' is for the folder of a history\n"
+        said = without_folder("--shift") + "\n"
         expect_end(command, KNOWN_SITE, "1", 2, said)
     ended = run(PROGRAM, "explain", "--shift", "1")
     expect("explain alone", (ended.status, ended.out), (2, b""))
@@ -511,7 +511,7 @@ def faulty_histories():
         folder = write_history(HERE / "faulty", KNOWN_SITE, *given)
         for command in ("replay", "explain", "sales", "report"):
             ended = run(PROGRAM, command, folder)
-            expect(f"{what}: {command}", (ended.status, ended.err), (1, f"{advised(fault)}\n"))
+            expect(f"{what}: {command}", (ended.status, ended.err), (1, f"{advised(fault, folder)}\n"))
             wanted = rows if command in ("replay", "explain") else 0
             lines = ended.out.splitlines()
             same = wanted - (what == "another row" and wanted > 0)  # rows that stay as they are
@@ -521,7 +521,7 @@ def faulty_histories():
     chapter_path(folder, 2).unlink()
     for command in ("replay", "explain", "sales", "report"):
         ended = run(PROGRAM, command, folder)
-        wanted = (1, b"", advised("chapter 2 is missing") + "\n")
+        wanted = (1, b"", advised("chapter 2 is missing", folder) + "\n")
         expect(f"a chapter is missing: {command}", (ended.status, ended.out, ended.err), wanted)
 
 
@@ -536,17 +536,18 @@ def no_histories():
     good = write_history(HERE / "good", KNOWN_SITE, *write_chapters(KNOWN_SITE, *bodies))
     for command in ("replay", "explain", "sales", "report"):
         for folder, fault in (
-            (nothing, f"cannot read {nothing}/site.toml: {NO_FILE}\n"),
-            (faulty, advised("site.toml: fault 72 product") + "\n"),
+            (nothing, no_history(nothing, NO_FILE) + "\n"),
+            (faulty, advised("site.toml: fault 72 product", faulty) + "\n"),
         ):
             ended = run(PROGRAM, command, folder)
             got = (ended.status, ended.out, ended.err)
             expect(f"{command} {folder.name}", got, (1, b"", fault))
         ended = run(PROGRAM, command, good, sink="/dev/full")
-        expect(f"{command}: a full output", (ended.status, ended.err), (1, "fault 62\n"))
+        expect(f"{command}: a full output", (ended.status, ended.err), (1, f"{NOT_PRINTED}\n"))
     ended = run(PROGRAM, "explain", HERE / "none")
-    said = f"error: '{HERE / 'none'}' is no number of a refusal or fault, and no folder\n"
-    expect("explain of nothing", (ended.status, ended.out, ended.err), (2, b"", said))
+    said = "is no number of a refusal or fault, and no folder that this user may enter"
+    got = (ended.status, ended.out, ended.err)
+    expect("explain of nothing", got, (2, b"", f"error: '{HERE / 'none'}' {said}\n"))
     before = {path.name: path.read_bytes() for path in good.iterdir()}
     for word, *words in [*PRINTS, ["explain"]]:
         print_of(good, word, *words)

@@ -8,7 +8,9 @@ import re
 import subprocess
 import typing
 
-from shared.checks import NO_FILE, advised, expect, first_line
+from shared.checks import (
+    NO_FILE, NOT_PRINTED, advised, expect, first_line, no_history, without_folder,
+)  # fmt: skip
 from shared.histories import (
     FIRST_LINES, LOCK_FILE, NO_SEAL, SITE_FILE, chapter_path, first_lines, seal_line, seal_of,
     write_history, write_rows,
@@ -141,7 +143,8 @@ def expect_fault(what, texts, rows, starts=True):
         return None
     fault = first_line(ended.err).removesuffix("\n")
     expect(f"{what}: {fault} of {faults}", (fault in faults, ended.out), (True, b""))
-    expect(f"{what}: what to do", ended.err, advised(fault) + "\n")
+    said = [advised(fault, folder, chapter) + "\n" for chapter in range(1, len(texts) + 1)]
+    expect(f"{what}: what to do: {ended.err}", ended.err in said, True)
     expect(f"{what}: the status", ended.status, 1)
     if starts:
         start = run(PROGRAM, "station", "--port", "0", "--history", folder)
@@ -191,7 +194,7 @@ def whole_histories():
         expect(f"--seal {word!r}", (ended.status, ended.out, ended.err), (2, b"", said))
     expect("nothing is locked", (folder / LOCK_FILE).exists(), False)
     ended = run(PROGRAM, "verify", folder, sink="/dev/full")
-    expect("a full output", (ended.status, ended.err), (1, "fault 62\n"))
+    expect("a full output", (ended.status, ended.err), (1, f"{NOT_PRINTED}\n"))
 
 
 @test
@@ -316,16 +319,16 @@ def changed_chapters():
     folder = chapters.write()
     chapter_path(folder, 2).unlink()
     ended = verify(folder)
-    said = advised("chapter 2 is missing") + "\n"
+    said = advised("chapter 2 is missing", folder) + "\n"
     expect("a number is left out", (ended.status, ended.out, ended.err), (1, b"", said))
     folder = chapters.write()
     (folder / SITE_FILE).write_bytes(KNOWN_SITE.read_bytes() + b"\n")
     ended = verify(folder)
-    said = advised("history of another site") + "\n"
+    said = advised("history of another site", folder) + "\n"
     expect("another site", (ended.status, ended.out, ended.err), (1, b"", said))
     (folder / SITE_FILE).unlink()
     ended = verify(folder)
-    said = f"cannot read {folder}/{SITE_FILE}: {NO_FILE}\n"
+    said = no_history(folder, NO_FILE) + "\n"
     expect("no site", (ended.status, ended.out, ended.err), (1, b"", said))
 
 
@@ -461,13 +464,13 @@ def times_of_rows():
     closed = next(place for place, text in enumerate(texts) if "CloseShift" in text)
     got = print_of("explain", folder, "--times", "--shift", "2")
     expect("shift 2", got, "".join(texts[closed + 1 :]))
-    said = "error: '--times' is for the folder of a history\n"
+    said = without_folder("--times") + "\n"
     for words in (["--times"], ["20", "--times"]):
         ended = run(PROGRAM, "explain", *words)
         expect(f"{words}", (ended.status, ended.out, ended.err), (2, b"", said))
     for word in ("from", "to"):
         ended = run(PROGRAM, "sales", KNOWN_SITE, f"--{word}", "2026-11-27")
-        said = f"error: '--{word}' is for the folder of a history\n"
+        said = without_folder(f"--{word}") + "\n"
         expect(word, (ended.status, ended.out, ended.err), (2, b"", said))
 
 
@@ -508,7 +511,7 @@ def story_before_a_fault():
     line = chapters.texts[1].count(b"\n") + 1
     ended = run(PROGRAM, "story", folder, "1/1/1")
     got = ended.status, ended.out, ended.err
-    said = advised(f"chapter 2 line {line}") + "\n"
+    said = advised(f"chapter 2 line {line}", folder) + "\n"
     expect("a line more", got, (1, b"", said))
     ended = run(PROGRAM, "story", folder, "1/9/1")
     got = ended.status, ended.out, ended.err

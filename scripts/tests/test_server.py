@@ -12,7 +12,7 @@ import statistics
 import threading
 import time
 
-from shared.checks import NO_FILE, Failed, expect, first_line
+from shared.checks import NO_FILE, NOT_PRINTED, Failed, expect, first_line
 from shared.running import run, tell_deaf
 from shared.serving import WAIT, list_addresses, send_reset, send_until, start_day
 from shared.station import (
@@ -398,7 +398,7 @@ def faulty_files():
 def closed_output():
     """Where it can't tell where it listens, it serves nobody."""
     end = run_to_end("serve", KNOWN_SITE, *options(), sink="/dev/full")
-    expect("status and standard error", end, (1, "", "fault 62\n"))
+    expect("status and standard error", end, (1, "", f"{NOT_PRINTED}\n"))
 
 
 def find_port():

@@ -8,7 +8,7 @@ import shutil
 import subprocess
 import tomllib
 
-from shared.checks import NO_FILE, advised, expect
+from shared.checks import NO_FILE, NOT_PRINTED, advised, expect, no_history
 from shared.histories import (
     LOCK_FILE, SITE_FILE, list_chapters, time_line, whole_lines, write_chapters, write_history,
     write_rows,
@@ -295,10 +295,10 @@ def no_histories():
     (faulty / SITE_FILE).write_bytes(b"")
     for word in ("shifts", "next"):
         for folder, fault in (
-            (HERE / "none", f"cannot read {HERE / 'none'}/site.toml: {NO_FILE}\n"),
-            (file, f"cannot read {file}/site.toml: Not a directory\n"),
-            (nothing, f"cannot read {nothing}/site.toml: {NO_FILE}\n"),
-            (faulty, advised("site.toml: fault 72 product") + "\n"),
+            (HERE / "none", no_history(HERE / "none", NO_FILE) + "\n"),
+            (file, no_history(file, "Not a directory") + "\n"),
+            (nothing, no_history(nothing, NO_FILE) + "\n"),
+            (faulty, advised("site.toml: fault 72 product", faulty) + "\n"),
         ):
             ended = run(PROGRAM, word, folder)
             got = (ended.status, ended.out, ended.err)
@@ -307,7 +307,7 @@ def no_histories():
             ended = run(PROGRAM, word, *words)
             expect(f"{word} {words}", (ended.status, ended.out), (2, b""))
         ended = run(PROGRAM, word, write_history(HERE / "good", KNOWN_SITE), sink="/dev/full")
-        expect(f"{word}: a full output", (ended.status, ended.err), (1, "fault 62\n"))
+        expect(f"{word}: a full output", (ended.status, ended.err), (1, f"{NOT_PRINTED}\n"))
 
 
 # ---- the next history

@@ -25,6 +25,32 @@ fault 70
    |
 15 | price = 1,500
    |          ^ {COMMA}
+== a leading zero in a price
+- price = 1500
++ price = 01500
+fault 70
+  --> line 15, column 9
+   |
+15 | price = 01500
+   |         ^^^^^ {VALUE}; a whole number is written without leading zeros
+== single brackets above the first point
+- [[point]]
++ [point]
+fault 70
+  --> line 27, column 1
+   |
+27 | [[point]]
+   | ^^^^^^^^^ {BRACKETS}
+== single brackets above the second product
+- [[product]]
+- number = 2
++ [product]
++ number = 2
+fault 70
+  --> line 17, column 1
+   |
+17 | [product]
+   | ^^^^^^^^^ {BRACKETS}
 == no price behind the equals sign
 - price = 1500
 + price =
@@ -81,7 +107,7 @@ fault 70
   --> line 17, column 1
    |
 17 | [[product]]
-   | ^^^^^^^^^^^ duplicate key
+   | ^^^^^^^^^^^ {BRACKETS}
 == a bracket is missing
 - [[product]]
 + [[product]
@@ -406,6 +432,8 @@ fault 74 price
 RULES = {
     "COMMA": "unexpected key or value, expected newline, `#`; a whole number is written without "
     "commas",
+    "BRACKETS": "duplicate key; each product and each point stands below a line with two brackets, "
+    "as [[point]]",
     "VALUE": "invalid value, expected a string, number, boolean, date-time, array or inline table",
     "NO_KEY": "no such key;",
     "NO_POINT_KEY": "no such key; a point has the keys number and nozzles",

@@ -25,7 +25,9 @@ import termios
 import threading
 import time
 
-from shared.checks import NO_FILE, NOT_PRINTED, Failed, advised, expect, first_line
+from shared.checks import (
+    NO_FILE, NOT_PRINTED, UNACCEPTED, Failed, advised, expect, first_line,
+)  # fmt: skip
 from shared.histories import is_read
 from shared.running import close_input, compile_c, run
 from shared.serving import (
@@ -118,8 +120,8 @@ def end_counted(day, counts):
     for line in err.decode().splitlines(keepends=True):
         more = re.fullmatch(r"(\d+) more in a second: (.*\n)", line)
         got[names.get(more[2], more[2]) if more else line] += int(more[1]) if more else 1
-    expect("status and lines", (day.process.returncode, got - collections.Counter([UNKEPT])),
-           (0, collections.Counter(counts)))  # fmt: skip
+    wanted = collections.Counter(counts) + collections.Counter(UNKEPT.splitlines(keepends=True))
+    expect("status and lines", (day.process.returncode, got), (0, wanted))
     return out.decode()
 
 
@@ -575,13 +577,12 @@ def descriptors_spent():
     """Where each descriptor is that of a session that has spoken, it is told once that no more are
     accepted, those who are there are served, and who waits is served once those before it have
     gone. A shortage after that is told again."""
-    told = "cannot accept: Too many open files (os error 24); it is tried again each second\n"
     few = lambda: resource.setrlimit(resource.RLIMIT_NOFILE, (20, 20))
     with start_station(preexec_fn=few) as day, contextlib.ExitStack() as stack:
         first = stack.enter_context(day.connect())
         ask(first, sign_on(1), SIGNED_ON[1])
         others = [speak(stack.enter_context(day.connect()), n) for n in range(30)]
-        expect("told", read_told(day, UNKEPT + told), UNKEPT + told)
+        expect("told", read_told(day, UNKEPT + UNACCEPTED), UNKEPT + UNACCEPTED)
         day.is_unkept = False  # that is read
         time.sleep(1.5)
         expect_quiet_program(day)
@@ -590,7 +591,7 @@ def descriptors_spent():
             peer.close()
         receive_message(others[-1])
         more = [speak(stack.enter_context(day.connect()), n) for n in range(30)]
-        expect("told again", os.read(day.process.stderr.fileno(), 4_096).decode(), told)
+        expect("told again", os.read(day.process.stderr.fileno(), 4_096).decode(), UNACCEPTED)
         for peer in more:
             peer.close()
         expect("report", end(day), write_report(2, 0))
@@ -1029,13 +1030,21 @@ def make_doors(*names):
     return doors
 
 
+# How a session ends whose first message may not come there, and a connection for which no place is.
+BARRED = (
+    "it may not speak there: a node that has a door uses it, any other the port, and nobody speaks"
+    " as the house till"
+)
+NO_PLACE = "all places are taken; ss -tnp, at a door ss -xnp, lists who has them"
+
+
 @test
 def doors_without_a_port():
     """A till and a dispenser speak through their doors, with no port: each request is answered, and
     the dispenser is told of the point. The first message of another originator is answered 57,
     and that session ends."""
     doors = make_doors("till-01", "till-32", "dispenser-01", "dispenser-64")
-    told = "session of t2: it may not speak there\n"
+    told = f"session of t2: {BARRED}\n"
     with start_station("--doors", doors, port=None) as day:
         with connect_at(doors / "till-01") as till, connect_at(doors / "dispenser-01") as pump:
             ask(pump, say(1), refuse(1, 2))
@@ -1055,7 +1064,7 @@ def doors_and_a_port():
     """A node that has a door speaks through it alone: its first message on the port is answered 57,
     and its session ends. Others speak on the port."""
     doors = make_doors("till-02")
-    told = "session of t2: it may not speak there\n"
+    told = f"session of t2: {BARRED}\n"
     with start_station("--doors", doors) as day, day.connect() as other:
         expect("at the port", day.ask(sign_on(2, 2)), CHANGED)
         ask(other, sign_on(1), SIGNED_ON[1])
@@ -1072,7 +1081,7 @@ def places_of_doors():
     comes through its door. A fifth session of a door is closed, which a line says; where one of the
     four has left, another has its place."""
     doors = make_doors("till-01", "till-02")
-    told = "a connection was closed: all places are taken\n"
+    told = f"a connection was closed: {NO_PLACE}\n"
     with start_station("--doors", doors) as day, contextlib.ExitStack() as stack:
         for _ in range(MOST_PEERS):
             stack.enter_context(day.connect())
@@ -1101,7 +1110,7 @@ def faults_of_doors():
     doors = make_doors("till-01")
     (doors / "a file").write_text("")
     with start_station("--doors", doors, port=None) as day:
-        expect_no_start(doors, advised("door till-01: in use") + "\n")
+        expect_no_start(doors, advised("door till-01: in use", doors) + "\n")
         day.process.kill()
     with start_station("--doors", doors, port=None) as day:
         with connect_at(doors / "till-01") as till:
@@ -1109,9 +1118,10 @@ def faults_of_doors():
         end(day)
     doors = make_doors("dispenser-03")
     (doors / "dispenser-03" / "socket").write_text("kept")
-    expect_no_start(doors, advised("door dispenser-03: cannot listen") + "\n")
+    expect_no_start(doors, advised("door dispenser-03: cannot listen", doors) + "\n")
     expect("the file", (doors / "dispenser-03" / "socket").read_text(), "kept")
-    expect_no_start(HERE / "no doors", f"cannot read {HERE / 'no doors'}: {NO_FILE}\n")
+    advice = "give --doors a folder that this user may list"
+    expect_no_start(HERE / "no doors", f"cannot read {HERE / 'no doors'}: {NO_FILE}\n{advice}\n")
     doors = make_doors()
     advice = "nobody could connect: make a folder for each node in it, or give --port"
     expect_no_start(doors, f"no doors in {doors}\n{advice}\n")
@@ -1291,6 +1301,9 @@ def control_d():
     """At a terminal Ctrl-D ends the day, and nothing else that is typed does."""
     ours, theirs = pty.openpty()
     with start_station(given=theirs) as day, day.connect() as till:
+        said = "Ctrl-D ends the day\n" + UNKEPT
+        expect("said", read_told(day, said), said)
+        day.is_unkept = False  # that is read
         ask(till, sign_on(1), SIGNED_ON[1])
         os.write(ours, b"hello\n")
         ask(till, command_point(1, 2, 1, OPEN), DONE)
@@ -1359,9 +1372,11 @@ def write_limit(rows):
 def too_few_rows():
     """A station's book has to have room for the rows of one read."""
     for rows in (1, 1_023):
-        ended = run(PROGRAM, "station", write_limit(rows), "--port", "0", given=b"")
+        site = write_limit(rows)
+        ended = run(PROGRAM, "station", site, "--port", "0", given=b"")
         got = (ended.status, ended.out, ended.err)
-        expect(f"{rows} rows", got, (1, b"", advised("fault 74 rows") + "\n"))
+        fault = advised("fault 74 rows", rows=rows, file=site)
+        expect(f"{rows} rows", got, (1, b"", f"{fault}\n"))
 
 
 def sell(day, till, point):
@@ -1428,6 +1443,7 @@ def mistaken_words():
     wrong += [["--port=0", f"--idle={idle}"] for idle in ("0", "86401", "-1", "+1", "x", "", "1.5")]
     wrong += [["--port=0", f"--rate={rate}"] for rate in ("1000001", "-1", "+1", "x", "", "1.5")]
     wrong += [["--port=0", "--port=1"], ["--port=0", "--workers=1"], ["--port=0", "--detached=1"]]
+    wrong += [["--port=9", "--page=9"], ["--port=9", "--feed=9"], ["--page=9", "--feed=9"]]
     for words in wrong:
         for site in (KNOWN_SITE, "no_such_file"):
             ended = run(PROGRAM, "station", site, *words, given=b"")
