@@ -1,6 +1,7 @@
 """What a till and a dispenser of these examples have in common: a connection to the site, which
 comes again where it ended, and messages. PROTOCOL.md has every identifier."""
 
+import os
 import socket
 import sys
 import time
@@ -44,7 +45,8 @@ def explain(items):
 
 def take_address(words):
     """The words of a command, parted into where the site listens and the rest: a port of this
-    machine, or `--door` and the path of a Unix socket. None where neither is there."""
+    machine, or `--door` and the path of a Unix socket or of its folder. None where neither is
+    there."""
     if words[:1] == ["--door"]:
         return (words[1], words[2:]) if len(words) > 1 else None
     if words and words[0].isdecimal():
@@ -57,7 +59,7 @@ def connect(address):
     if isinstance(address, int):
         return socket.create_connection(("127.0.0.1", address))
     peer = socket.socket(socket.AF_UNIX, socket.SOCK_STREAM)
-    peer.connect(address)
+    peer.connect(os.path.join(address, "socket") if os.path.isdir(address) else address)
     return peer
 
 
