@@ -239,14 +239,18 @@ def allowed_calls(unit):
     return allowed
 
 
+def heed_interrupts():
+    """Before a shell starts: it can't trap a signal that is ignored as it begins, as SIGINT is in
+    the background."""
+    signal.signal(signal.SIGINT, signal.SIG_DFL)
+
+
 @contextlib.contextmanager
 def run_station(folder, *words):
     """A station, started as the unit does, that was asked at a door and by HTTP. It has to be
     asked to end, and prints its report then. Words stand before the command."""
     command = [*words, unpacked() / "usr/lib/forecourt/run-station", PROGRAM, *STATION]
-    # A shell can't trap a signal that is ignored as it begins, as SIGINT is in the background.
-    heed = lambda: signal.signal(signal.SIGINT, signal.SIG_DFL)
-    how = {"cwd": folder, "stdout": subprocess.PIPE, "preexec_fn": heed}
+    how = {"cwd": folder, "stdout": subprocess.PIPE, "preexec_fn": heed_interrupts}
     with subprocess.Popen(command, **how) as station:
         page = next(line for line in station.stdout if line.startswith(b"page "))
         with urllib.request.urlopen(page.decode().split()[1] + "healthz") as answer:
@@ -265,6 +269,16 @@ def make_site(name):
     (folder / "doors/till-01").mkdir(parents=True)
     shutil.copy(EXAMPLES / "five_points.toml", folder / "history/site.toml")
     return folder
+
+
+@test
+def a_signal_as_the_station_starts():
+    """Asked to end before the station reads its input, what the unit runs ends it all the same."""
+    runner = unpacked() / "usr/lib/forecourt/run-station"
+    for word in ("TERM", "INT"):
+        command = [runner, "sh", "-c", f"kill -{word} $PPID; cat; echo ended"]
+        end = run(*command, preexec_fn=heed_interrupts)
+        expect(word, (end.status, end.out, end.err), (0, b"ended\n", ""))
 
 
 @test
