@@ -538,7 +538,8 @@ def rows_of_the_history():
     """While a till asks as fast as it is answered, no more rows are told than the history
     has lines."""
     folder, count = HERE / "stored", 10 * READS  # the page answers ten times a second
-    with start_page("--history", str(folder)) as page, connect(page.port) as peer:
+    words = ("--history", str(folder), "--lost", "0")  # also where it takes a minute
+    with start_page(*words) as page, connect(page.port) as peer:
         asking = threading.Thread(
             target=lambda: page.tell(*(command_point(1, n % 32, 1, OPEN) for n in range(count)))
         )
