@@ -134,7 +134,7 @@ def write_bash(helps):
     return f"""# Completions of {PROGRAM} for bash.
 _{PROGRAM}() {{
     local current=${{COMP_WORDS[COMP_CWORD]}} words
-    if ((COMP_CWORD == 1)); then
+    if ((COMP_CWORD == 1)) || [[ COMP_CWORD -eq 2 && ${{COMP_WORDS[1]}} == help ]]; then
         mapfile -t COMPREPLY < <(compgen -W '{" ".join(whole.commands)}' -- "$current")
         return
     fi
@@ -176,6 +176,10 @@ _{PROGRAM}() {{
         return
     fi
     local command=$words[2]
+    if [[ $command == help ]]; then
+        ((CURRENT == 3)) && _describe command commands
+        return
+    fi
     shift words
     ((CURRENT--))
     case $command in
@@ -205,6 +209,8 @@ def write_fish(helps):
         lines.append(
             f"complete -c {PROGRAM} -f -n __fish_use_subcommand -a {name} -d {fish_quote(purpose)}"
         )
+    names = " ".join(whole.commands)
+    lines.append(f"complete -c {PROGRAM} -f -n '__fish_seen_subcommand_from help' -a '{names}'")
     for one in commands:
         for option in one.options:
             lines.append(fish_option(one.name, option))

@@ -361,9 +361,10 @@ def shells_read_the_completions():
 
 @test
 def bash_completes():
-    """bash completes a command, and an option of it."""
+    """bash completes a command, an option of it, and a command that help is asked of."""
     script = unpacked() / "usr/share/bash-completion/completions/forecourt"
-    for words, wanted in {("sta",): "station", ("station", "--doo"): "--doors"}.items():
+    typed = {("sta",): "station", ("station", "--doo"): "--doors", ("help", "sto"): "story"}
+    for words, wanted in typed.items():
         line = " ".join(f"'{word}'" for word in ("forecourt", *words))
         asked = f"""source '{script}'; COMP_WORDS=({line}); COMP_CWORD={len(words)}
             _forecourt 2> /dev/null; echo "${{COMPREPLY[@]}}" """
